@@ -1,6 +1,6 @@
 pub mod Carrying
 mod First
-mod Cells
+pub mod Cells
 mod Answers
 mod Turning
 pub mod Writing

@@ -15,7 +15,7 @@ use crate::slip::retire;
 use crate::slip::take_down;
 
 /// A lightpath of a chain, and the wavelength that it changes to.
-#[derive(Clone, Copy, PartialEq, Eq, Debug)]
+#[derive(Clone, Copy)]
 pub struct Retuning {
     pub wavelength: u8,
     pub source: u8,

@@ -1,0 +1,2 @@
+mod Lighting
+mod Registers
