@@ -18,6 +18,18 @@ first-none p (suc n) h =
     let at : p n ≡ false = h n (omega arith) in
     rw (none, at) refl
 
+none-left : (o : Option ℕ) (b : Bool) (n : ℕ) → orElse o (cond b (Some n) None) ≡ None → (o ≡ None) × (b ≡ false)
+none-left None false n e = (refl, refl)
+none-left None true n e = absurd (let z : _≡_ {A = ℕ} 0 1 = cc in omega arith)
+none-left (Some x) b n e = absurd (let z : _≡_ {A = ℕ} 0 1 = cc in omega arith)
+
+pub none-passes : (p : ℕ → Bool) (n : ℕ) → first p n ≡ None → (k : ℕ) → k < n → p k ≡ false
+unfolding first
+none-passes p zero e k l = absurd (omega arith)
+none-passes p (suc n) e k l =
+    let r = none-left (first p n) (p n) n e in
+    elim (cases-lt k n) [ inl lo ↦ none-passes p n (r .0) k lo | inr hi ↦ (let s : k ≡ n = omega arith in ap p s ∙ r .1) ]
+
 -- k passes, and none before it
 pub first-is : (p : ℕ → Bool) (n k : ℕ) → k < n → p k ≡ true → ((j : ℕ) → j < k → p j ≡ false) → first p n ≡ Some k
 unfolding first

@@ -192,6 +192,6 @@ module _ (n g : ℕ) (hn : n ≤ 32) (hg : g ≤ 32) where
   dark-mirrors =
       let place : (w b : ℕ) → mirrorSwitch n g (replicate 1024 0) .hears w b ≡ None =
       λ w b. cond-both (ltb w n && ltb b g) _ _ (λ (o : Option ℕ). o ≡ None)
-      (λ t. let p = and-parts _ _ t in first-none _ g (λ c hc. ne-eqb _ _ (λ e. omega (arith, all-dark w c (ltb-true _ _ (p .0)) hc, e))))
+      (λ t. first-none _ g (λ c hc. ne-eqb _ _ (λ e. omega (arith, all-dark w c (ltb-true w n (and-parts (ltb w n) (ltb b g) t .0)) hc, e))))
       (λ f. refl) in
       λ i. record { waves = n; groups = g; hears = λ w b. place w b i }

@@ -26,6 +26,11 @@ pub record Proper (t : Switch) : Type 0 where
   pub both : (t .waves ≡ 0 → t .groups ≡ 0) × (t .groups ≡ 0 → t .waves ≡ 0)
   pub inside : (w b : ℕ) → isSome (t .hears w b) ≡ true → (w < t .waves) × (b < t .groups)
 
+-- on each wavelength what is lit is a matching: no source is heard at two destinations, and no destination hears two sources, since it hears one or none
+pub record Matching (t : Switch) : Type 0 where
+  pub one : (w a b c : ℕ) → t .hears w b ≡ Some a → t .hears w c ≡ Some a → b ≡ c
+  pub inside : (w b : ℕ) → isSome (t .hears w b) ≡ true → (w < t .waves) × (b < t .groups)
+
 -- is it the source group a?
 abbrev pub isFrom : Option ℕ → ℕ → Bool
 isFrom None a = false

@@ -5,6 +5,7 @@ ghost use mathlib.Core.Path.{_≡_};
 ghost use Prim.Native.Nat.{_-_, _<_};
 ghost use Rattle.plant.specs.Orders.{AllAccepted, afterAll, answerToAll, changeOver, darkening, onward, relighting, untilRefused};
 ghost use Rattle.plant.specs.Slips.{slipFor, slipOf};
+ghost use Rattle.plant.specs.Switch.{Matching, Switch};
 ghost use Rattle.std.specs.Options.{Cases as BySome};
 ghost use Rattle.std.specs.declared.result.Result.the-variants.{Ok};
 use crate::Plant;
@@ -84,10 +85,23 @@ fn last_of(chain: &[Retuning]) -> Option<Retuning>
     Some(chain[n - 1])
 }
 
-// Proof only: orders that are accepted in turn are answered so, and leave the plant as they say.
+// Proof only: orders that are accepted in turn are answered so, and leave the plant as they say; and what is lit stays a matching.
 fn all_taken<P: Plant>(plant: &P, chain: &[Retuning])
-    ensures { λ _. ⌜ (AllAccepted (state (now (plant .entry))) (changeOver (now (chain .entry))) → (answerToAll (state (now (plant .entry))) (changeOver (now (chain .entry))) ≡ Ok tt) × (untilRefused (state (now (plant .entry))) (changeOver (now (chain .entry))) ≡ afterAll (state (now (plant .entry))) (changeOver (now (chain .entry))))) ⌝ }
+    ensures accepted { λ _. ⌜ (AllAccepted (state (now (plant .entry))) (changeOver (now (chain .entry))) → (answerToAll (state (now (plant .entry))) (changeOver (now (chain .entry))) ≡ Ok tt) × (untilRefused (state (now (plant .entry))) (changeOver (now (chain .entry))) ≡ afterAll (state (now (plant .entry))) (changeOver (now (chain .entry))))) ⌝ }
+    ensures matching { λ _. ⌜ ((t : Switch) → t ≡ untilRefused (state (now (plant .entry))) (changeOver (now (chain .entry))) → Matching (state (now (plant .entry))) → Matching t) ⌝ }
 {}
+
+fn from_the_last<P: Plant>(plant: &mut P, chain: &[Retuning]) -> Result<(), PlantRefusal>
+    ensures answer { λ r. ⌜ r ≡ answerToAll (state (now (plant .entry))) (changeOver (now (chain .entry))) ⌝ }
+    ensures after { λ _. ⌜ state (now (plant .exit)) ≡ untilRefused (state (now (plant .entry))) (changeOver (now (chain .entry))) ⌝ }
+    ensures kept { λ _. ⌜ kept (now (plant .exit)) ≡ kept (now (plant .entry)) ⌝ }
+{
+    let Some(last) = last_of(chain) else {
+        return Ok(());
+    };
+    let held = take_down(plant, last.wavelength, last.source, last.destination)?;
+    go_back(plant, held, last, &chain[0..chain.len() - 1])
+}
 
 /// Darkens the last lightpath of the chain; then, going back, darkens each and lights the one after it on its new wavelength; and lights the first.
 /// It ends at the first order that the plant refuses, with every slip spent.
@@ -96,11 +110,8 @@ pub fn change_over<P: Plant>(plant: &mut P, chain: &[Retuning]) -> Result<(), Pl
     ensures after { λ _. ⌜ state (now (plant .exit)) ≡ untilRefused (state (now (plant .entry))) (changeOver (now (chain .entry))) ⌝ }
     ensures kept { λ _. ⌜ kept (now (plant .exit)) ≡ kept (now (plant .entry)) ⌝ }
     ensures accepted { λ r. ⌜ (AllAccepted (state (now (plant .entry))) (changeOver (now (chain .entry))) → (r ≡ Ok tt) × (state (now (plant .exit)) ≡ afterAll (state (now (plant .entry))) (changeOver (now (chain .entry))))) ⌝ }
+    ensures matching { λ _. ⌜ (Matching (state (now (plant .entry))) → Matching (state (now (plant .exit)))) ⌝ }
 {
     all_taken(plant, chain);
-    let Some(last) = last_of(chain) else {
-        return Ok(());
-    };
-    let held = take_down(plant, last.wavelength, last.source, last.destination)?;
-    go_back(plant, held, last, &chain[0..chain.len() - 1])
+    from_the_last(plant, chain)
 }
