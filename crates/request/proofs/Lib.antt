@@ -1,0 +1,9 @@
+pub mod Asking
+pub mod Cutting
+pub mod Joining
+pub mod Lining
+pub mod Reading
+pub mod Refusing
+pub mod Spelling
+pub mod Splitting
+pub mod Values
