@@ -1,17 +1,15 @@
 -- What the registers of a fabric hold after a job, from what the fabric promises.
-use Prim.Native.Nat.{ℕ, _+_, _*_, _<_, _≤_}
+use Prim.Native.Nat.{ℕ, _+_, _*_, _<_}
 use mathlib.Core.Path.{_≡_, refl, sym, _∙_, ap, subst}
-use mathlib.Core.Bool.{Bool, true, false, cond}
-use mathlib.Core.List.{List, [], _∷_, _++_, map}
-use mathlib.Core.Logic.{_⊎_, inl, inr}
-use native.Mathlib.Omega.{arith}
+use mathlib.Core.List.{List, [], _∷_, map}
+use mathlib.Core.Logic.{inl, inr}
 use lib.ListN.{length, getD, drop, replicate, length-replicate}
 use Rattle.std.proofs.shelf.Lists.{drop-at}
 use Rattle.std.proofs.shelf.Tests.{cases-bool, cond-true, cond-false, cond-both}
 use Rattle.std.specs.Results.{isOk}
 use Rattle.plant.specs.declared.slip.Lightpath.{Lightpath}
 use Rattle.plant.specs.declared.change_over.Retuning.{Retuning}
-use Rattle.plant.specs.Cells.{coded, named, cell}
+use Rattle.plant.specs.Cells.{coded}
 use Rattle.plant.specs.Making.{fabricVerdict}
 use Rattle.plant.specs.Orders.{Order, light, darken, answerTo, after, afterAll, changeOver, untilRefused}
 use Rattle.plant.specs.Registers.{fabricSwitch, served, zeroed}

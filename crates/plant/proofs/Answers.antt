@@ -1,10 +1,9 @@
 -- What an accepted order tells of the plant before it and after it.
 use Prim.Native.Nat.{ℕ, _<_}
 use mathlib.Core.Path.{_≡_, refl, sym, _∙_, ap}
-use mathlib.Core.Bool.{Bool, true, false, cond, _&&_}
+use mathlib.Core.Bool.{Bool, true, false, cond}
 use native.Mathlib.Omega.{arith}
-use lib.Dec.{ltb, eqb}
-use Rattle.std.proofs.shelf.Tests.{ltb-true, eqb-true, and-parts, cond-true, cond-false, lt-ltb, and-from}
+use Rattle.std.proofs.shelf.Tests.{ltb-true, eqb-true, ne-eqb, and-parts, cond-true, and-from}
 use Rattle.std.specs.Options.{isSome}
 use Rattle.std.specs.Results.{isOk}
 use Rattle.std.specs.declared.option.Option.{Option}
@@ -55,6 +54,10 @@ none-there (Some x) e = absurd (let z : _≡_ {A = Bool} true false = e in let y
 pub from-there : (o : Option ℕ) (a : ℕ) → isFrom o a ≡ true → o ≡ Some a
 from-there None a e = absurd (let z : _≡_ {A = Bool} false true = e in let y : _≡_ {A = ℕ} 0 1 = cc in omega arith)
 from-there (Some x) a e = ap Some (eqb-true x a e)
+
+pub not-from : (o : Option ℕ) (a : ℕ) → (o ≡ Some a → ⊥) → isFrom o a ≡ false
+not-from None a h = refl
+not-from (Some x) a h = ne-eqb x a (λ e. h (ap Some e))
 
 pub lightable : (t : Switch) (w a b : ℕ) → lightAnswer t w a b ≡ Ok tt → Lightable t w a b
 unfolding lightAnswer

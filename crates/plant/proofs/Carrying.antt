@@ -1,12 +1,11 @@
 -- Carrying out a list of orders: one order, a refusal, two lists in turn, and a list that is accepted throughout.
 use Prim.Native.Nat.{ℕ, _+_, _-_, _<_, _≤_}
-use mathlib.Core.Path.{_≡_, refl, sym, _∙_, ap, subst}
-use mathlib.Core.Bool.{Bool, true, false, cond}
+use mathlib.Core.Path.{_≡_, refl, sym, _∙_, ap}
 use mathlib.Core.List.{List, [], _∷_, _++_, reverse, reverse-append}
 use mathlib.Core.Logic.{_⊎_, inl, inr}
 use native.Mathlib.Omega.{arith}
 use lib.ListN.{length, getD, take}
-use Rattle.std.proofs.shelf.Lists.{take-more, take-all}
+use Rattle.std.proofs.shelf.Lists.{take-more}
 use Rattle.std.proofs.shelf.Tests.{cond-true, cond-false}
 use Rattle.std.specs.Results.{isOk}
 use Rattle.std.specs.Vec.{refused}
@@ -16,9 +15,9 @@ use Rattle.std.specs.declared.result.Result.the-variants.{Ok, Err}
 use Rattle.plant.specs.declared.refusal.PlantRefusal.{PlantRefusal}
 use Rattle.plant.specs.declared.change_over.Retuning.{Retuning}
 use Rattle.plant.specs.declared.slip.Slip.{Slip}
-use Rattle.plant.specs.Switch.{Switch, tuned, lightAnswer, darkenAnswer, litAfter, darkAfter}
-use Rattle.plant.specs.Slips.{slipFor, slipOf}
-use Rattle.plant.specs.Orders.{Order, darken, light, answerTo, after, AllAccepted, afterAll, answerToAll, untilRefused, darkening, relighting, onward, backwards, changeOver}
+use Rattle.plant.specs.Switch.{Switch, tuned}
+use Rattle.plant.specs.Slips.{slipFor}
+use Rattle.plant.specs.Orders.{Order, darken, light, answerTo, after, AllAccepted, afterAll, answerToAll, untilRefused, darkening, relighting, onward}
 
 abbrev Reply : Type 0
 Reply = Result (Unit {0}) PlantRefusal

@@ -1,7 +1,7 @@
 pub mod Carrying
-mod First
+pub mod First
 pub mod Cells
-mod Answers
+pub mod Answers
 pub mod Matchings
 mod Turning
 pub mod Writing

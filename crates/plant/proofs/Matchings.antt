@@ -1,9 +1,9 @@
 -- Whatever is put to a plant, what is lit on a wavelength stays a matching.
 use Prim.Native.Nat.{ℕ, _<_}
 use mathlib.Core.Path.{_≡_, refl, sym, _∙_, ap, subst}
-use mathlib.Core.Bool.{Bool, true, false, cond, _&&_}
+use mathlib.Core.Bool.{true, false, _&&_}
 use mathlib.Core.List.{List, [], _∷_}
-use mathlib.Core.Logic.{_⊎_, inl, inr}
+use mathlib.Core.Logic.{inl, inr}
 use native.Mathlib.Omega.{arith}
 use lib.Dec.{eqb}
 use Rattle.std.proofs.shelf.Tests.{eq-eqb, cond-true, cond-false, cond-both, false≢true}
@@ -12,8 +12,8 @@ use Rattle.std.specs.Results.{isOk}
 use Rattle.std.specs.declared.option.Option.{Option}
 use Rattle.std.specs.declared.option.Option.the-variants.{Some, None}
 use Rattle.plant.specs.Orders.{Order, light, darken, answerTo, after, untilRefused}
-use Rattle.plant.specs.Switch.{Switch, Matching, first, isFrom, tuned, litAfter, darkAfter}
-use Rattle.plant.proofs.Answers.{lightable, darkenable, put, lit, darkened}
+use Rattle.plant.specs.Switch.{Switch, Matching, first, isFrom, tuned}
+use Rattle.plant.proofs.Answers.{lightable, put, lit, darkened}
 use Rattle.plant.proofs.Carrying.{outcome, unchanged}
 use Rattle.plant.proofs.Cells.{same-or-other, same-test}
 use Rattle.plant.proofs.First.{none-passes}

@@ -1,9 +1,9 @@
 -- What mirrors let be heard, and what turning one mirror does to it.
 use Prim.Native.Nat.{ℕ, _+_, _-_, _*_, _<_, _≤_}
 use mathlib.Core.Path.{_≡_, refl, sym, _∙_, ap}
-use mathlib.Core.Bool.{Bool, true, false, cond, _&&_}
+use mathlib.Core.Bool.{cond, _&&_}
 use mathlib.Core.List.{List}
-use mathlib.Core.Logic.{_⊎_, inl, inr}
+use mathlib.Core.Logic.{inl, inr}
 use native.Mathlib.Omega.{arith}
 use lib.Dec.{ltb, eqb}
 use lib.ListN.{length, set, replicate}
@@ -14,14 +14,10 @@ use Rattle.std.specs.declared.option.Option.the-variants.{Some, None}
 use Rattle.std.specs.declared.result.Result.the-variants.{Ok}
 use Rattle.plant.specs.Cells.{cell}
 use Rattle.plant.specs.Mirrors.{Ranged, Apart, mirrorSwitch}
-use Rattle.plant.specs.Switch.{Switch, first, isFrom, tuned, darkSwitch, lightAnswer, darkenAnswer, litAfter, darkAfter}
-use Rattle.plant.proofs.Answers.{Lightable, Darkenable, lightable, darkenable, put, lit, darkened, from-there}
+use Rattle.plant.specs.Switch.{first, isFrom, tuned, darkSwitch, lightAnswer, darkenAnswer, litAfter, darkAfter}
+use Rattle.plant.proofs.Answers.{Lightable, Darkenable, lightable, darkenable, put, lit, darkened, not-from}
 use Rattle.plant.proofs.Cells.{same-or-other, same-test, cell-same, cell-other}
 use Rattle.plant.proofs.First.{first-none, first-is, first-same, first-passes}
-
-not-from : (o : Option ℕ) (a : ℕ) → (o ≡ Some a → ⊥) → isFrom o a ≡ false
-not-from None a h = refl
-not-from (Some x) a h = ne-eqb x a (λ e. h (ap Some e))
 
 module _ (n g : ℕ) (ms : List ℕ) (w : ℕ) (hw : w < n) where
   pub heard-in : (b : ℕ) → b < g → mirrorSwitch n g ms .hears w b ≡ first (λ a. eqb (cell 32 ms w a) (b + 1)) g

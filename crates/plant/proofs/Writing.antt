@@ -2,15 +2,15 @@
 use Prim.Native.Nat.{ℕ, _+_, _-_, _*_, _<_, _≤_}
 use mathlib.Core.Path.{_≡_, refl, sym, _∙_, ap}
 use mathlib.Core.Bool.{Bool, true, false, cond, _&&_}
-use mathlib.Core.List.{List, _++_}
-use mathlib.Core.Logic.{_⊎_, inl, inr}
+use mathlib.Core.List.{List}
+use mathlib.Core.Logic.{inl, inr}
 use native.Mathlib.Omega.{arith}
 use lib.Dec.{ltb, leb, eqb}
-use lib.ListN.{length, getD, set, drop, replicate, length-set, length-replicate, length-append, length-drop}
+use lib.ListN.{length, set, drop, replicate, length-set, length-replicate, length-append, length-drop}
 use lib.Seq.{drop-set-lt}
 use Rattle.std.proofs.shelf.Bits.{mul-add-lt}
 use Rattle.std.proofs.shelf.Lists.{getD-replicate, getD-append-left}
-use Rattle.std.proofs.shelf.Tests.{lt-ltb, ltb-true, eq-eqb, ne-eqb, eqb-true, eqb-false, leb-true, cases-eq, cases-bool, and-from, and-parts, cond-true, cond-false, cond-both, false≢true}
+use Rattle.std.proofs.shelf.Tests.{lt-ltb, ltb-true, eq-eqb, ne-eqb, leb-true, cases-eq, cases-bool, and-from, and-parts, cond-true, cond-false, cond-both, false≢true}
 use Rattle.std.specs.Options.{isSome}
 use Rattle.std.specs.Results.{isOk}
 use Rattle.std.specs.declared.option.Option.{Option}
@@ -22,7 +22,7 @@ use Rattle.plant.specs.declared.refusal.MakingRefusal.the-variants.{Counts, Re
 use Rattle.plant.specs.Cells.{cell, named}
 use Rattle.plant.specs.Making.{fabricVerdict, granted, isCount}
 use Rattle.plant.specs.Registers.{registerSwitch, fabricSwitch, served, zeroed}
-use Rattle.plant.specs.Switch.{Switch, first, isFrom, steered, tuned, darkSwitch, lightAnswer, darkenAnswer, litAfter, darkAfter}
+use Rattle.plant.specs.Switch.{Switch, isFrom, steered, tuned, darkSwitch, lightAnswer, darkenAnswer, litAfter, darkAfter}
 use Rattle.plant.proofs.Answers.{lightable, darkenable, put, lit, darkened}
 use Rattle.plant.proofs.First.{first-is, first-none}
 use Rattle.plant.proofs.Cells.{same-or-other, same-test, cell-same, cell-other, named-coded}

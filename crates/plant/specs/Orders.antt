@@ -5,7 +5,7 @@ use mathlib.Core.Bool.{cond}
 use mathlib.Core.List.{List, [], _∷_, reverse}
 use Rattle.std.specs.Results.{isOk}
 use Rattle.std.specs.declared.result.Result.{Result}
-use Rattle.std.specs.declared.result.Result.the-variants.{Ok, Err}
+use Rattle.std.specs.declared.result.Result.the-variants.{Ok}
 use Rattle.plant.specs.declared.refusal.PlantRefusal.{PlantRefusal}
 use Rattle.plant.specs.declared.change_over.Retuning.{Retuning}
 use Rattle.plant.specs.Switch.{Switch, lightAnswer, darkenAnswer, litAfter, darkAfter}

@@ -1,5 +1,5 @@
 -- What register bytes mean: in rows of the group count, the byte of a destination group on a wavelength is the source group heard there plus one, or 0.
-use Prim.Native.Nat.{ℕ, _*_}
+use Prim.Native.Nat.{ℕ}
 use mathlib.Core.Bool.{cond, _&&_}
 use mathlib.Core.List.{List, _++_}
 use lib.Dec.{ltb}

@@ -1,8 +1,6 @@
 -- The fabric keeps the name of its registers, so what they hold at its end is what they hold at the return.
 use borrow.Author.Needs.{needs}
-use Prim.Native.Nat.{ℕ}
 use mathlib.Core.Path.{_≡_, _∙_, ap}
-use mathlib.Core.List.{List}
 use denote.Ref.{name, now}
 use Rattle.plant.specs.Switch.{Switch}
 use Rattle.commission.specs.Job.{afterJob}

@@ -1,5 +1,5 @@
 use mathlib.Core.Path.{refl}
-use Rattle.plant.proofs.Writing.{fitting, dark-registers}
+use Rattle.plant.proofs.Writing.{dark-registers}
 use Rattle.plant.proofs.fabric.RegisterFabric.dark.Needs as need
 
 pub returns : need.returns

@@ -1,7 +1,6 @@
 use Prim.Native.Nat.{_+_, _-_, _<_, _≤_}
 use mathlib.Core.Path.{_≡_, sym, _∙_}
 use native.Mathlib.Omega.{arith}
-use lib.ListN.{getD}
 use Rattle.std.proofs.shelf.Tests.{and-from, lt-ltb, cond-true}
 use Rattle.plant.specs.Cells.{cell}
 use Rattle.plant.proofs.Turning.{steered-is, steered-none}
@@ -16,7 +15,6 @@ returns-then-mirror-eq0 c =
 pub returns-else-mirror-eq0 : need.returns-else-mirror-eq0
 returns-else-mirror-eq0 c =
     let h = c .args .self .now in
-    let m = cell 32 (h .mirrors) (c .args .w) (c .args .a) in
     let le : cell 32 (h .mirrors) (c .args .w) (c .args .a) ≤ h .groups = h .ranged (c .args .w) (c .args .a) (c .if-w-self .left) (c .if-a-self .left) in
     let at : cell 32 (h .mirrors) (c .args .w) (c .args .a) ≡ (cell 32 (h .mirrors) (c .args .w) (c .args .a) - 1) + 1 = omega arith in
     let lt : cell 32 (h .mirrors) (c .args .w) (c .args .a) - 1 < h .groups = omega arith in

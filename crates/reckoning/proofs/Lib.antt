@@ -1,0 +1,22 @@
+-- The lemmas, by subject.
+pub mod Masks
+pub mod Pigeon
+pub mod Chains
+pub mod Sessions
+pub mod Exchange
+pub mod Plants
+pub mod Orders
+pub mod Plans
+pub mod Tables
+pub mod Lightpaths
+pub mod Verdicts
+pub mod Admissions
+pub mod Blocking
+pub mod Quotes
+pub mod Releases
+pub mod Rows
+pub mod Runs
+pub mod Soundness
+pub mod ChangeOvers
+pub mod Loads
+pub mod Codes
