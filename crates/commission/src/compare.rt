@@ -29,7 +29,7 @@ fn agree_on<A: Plant, B: Plant>(first: &A, second: &B, w: u8) -> bool
 }
 
 /// True exactly where both have the same counts and the same is heard everywhere.
-pub fn agree<A: Plant, B: Plant>(first: &A, second: &B) -> bool
+pub(crate) fn agree<A: Plant, B: Plant>(first: &A, second: &B) -> bool
     ensures yes { λ r. ⌜ (r ≡ true → Same (A·Plant .state (now (first .entry))) (B·Plant .state (now (second .entry)))) ⌝ }
     ensures no { λ r. ⌜ (r ≡ false → Same (A·Plant .state (now (first .entry))) (B·Plant .state (now (second .entry))) → ⊥) ⌝ }
 {

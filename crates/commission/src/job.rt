@@ -71,7 +71,7 @@ fn put_out<P: Plant>(plant: &mut P, path: Lightpath) -> Result<(), PlantRefusal>
 }
 
 /// Lights the plan on any plant, changes both chains over, and puts the last lightpath out.
-pub fn work<P: Plant>(heap: Global, plant: &mut P, job: Job) -> Result<Answers, AllocError>
+pub(crate) fn work<P: Plant>(heap: Global, plant: &mut P, job: Job) -> Result<Answers, AllocError>
     ensures lit { λ r. ⌜ made r (λ a. vec-items (a .lit) ≡ answersTo (state (now (plant .entry))) (now (job .entry .plan))) ⌝ }
     ensures chain { λ r. ⌜ made r (λ a. a .chain ≡ answerNumber (answerToAll (planLit (state (now (plant .entry))) (now (job .entry .plan))) (changeOver (now (job .entry .chain))))) ⌝ }
     ensures other { λ r. ⌜ made r (λ a. a .other ≡ answerNumber (answerToAll (chainMoved (state (now (plant .entry))) (now (job .entry .plan)) (now (job .entry .chain))) (changeOver (now (job .entry .other))))) ⌝ }

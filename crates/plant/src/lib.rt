@@ -49,6 +49,3 @@ pub trait Plant {
         ensures after { λ _. ⌜ state (now (self .exit)) ≡ darkAfter (state (now (self .entry))) w a b ⌝ }
         ensures kept { λ _. ⌜ kept (now (self .exit)) ≡ kept (now (self .entry)) ⌝ };
 }
-
-#[cfg(test)]
-mod tests;

@@ -1,23 +1,23 @@
 //! Both makes of plant on examples and edges.
-use crate::Plant;
-use crate::change_over::Retuning;
-use crate::change_over::change_over;
-use crate::fabric::FabricPlant;
-use crate::fabric::RegisterFabric;
-use crate::hub::HubPlant;
-use crate::hub::MirrorHub;
-use crate::refusal::MakingRefusal;
-use crate::refusal::MakingRefusalDebug;
-use crate::refusal::MakingRefusalPartialEq;
-use crate::refusal::PlantRefusal;
-use crate::refusal::PlantRefusalDebug;
-use crate::refusal::PlantRefusalPartialEq;
-use crate::slip::Lightpath;
-use crate::slip::LightpathDebug;
-use crate::slip::LightpathPartialEq;
-use crate::slip::relight;
-use crate::slip::retire;
-use crate::slip::take_down;
+use plant::Plant;
+use plant::change_over::Retuning;
+use plant::change_over::change_over;
+use plant::fabric::FabricPlant;
+use plant::fabric::RegisterFabric;
+use plant::hub::HubPlant;
+use plant::hub::MirrorHub;
+use plant::refusal::MakingRefusal;
+use plant::refusal::MakingRefusalDebug;
+use plant::refusal::MakingRefusalPartialEq;
+use plant::refusal::PlantRefusal;
+use plant::refusal::PlantRefusalDebug;
+use plant::refusal::PlantRefusalPartialEq;
+use plant::slip::Lightpath;
+use plant::slip::LightpathDebug;
+use plant::slip::LightpathPartialEq;
+use plant::slip::relight;
+use plant::slip::retire;
+use plant::slip::take_down;
 use std::test::*;
 
 // A plant of 2 wavelengths and 4 groups answers in the order of the questions.
