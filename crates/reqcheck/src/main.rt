@@ -1,4 +1,4 @@
-// Checks a request file from standard input, and prints the answer table for it.
+//! Checks a request file from standard input, and prints the answer table for it.
 use std::error::AnyError;
 use text::check::check_text;
 use text::input::read_input;

@@ -1,4 +1,4 @@
-// A request, read from its line.
+//! A request, read from its line.
 ghost use Rattle.request.specs.Lines.{readLine};
 ghost use Rattle.request.specs.Requests.{actOf, dashAt, dashes, noLimit, noSites, verbOf};
 ghost use mathlib.Core.Path.{_≡_};

@@ -1,4 +1,4 @@
-// Searches and comparisons in bytes.
+//! Searches and comparisons in bytes.
 ghost use Prim.Native.Nat.{_≤_};
 ghost use Rattle.std.specs.shelf.Text.{sameBytes};
 ghost use Rattle.request.specs.Cuts.{before};

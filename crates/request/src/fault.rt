@@ -1,4 +1,4 @@
-// Why a text, a line or a word is refused. Each fault holds the fault below it whole.
+//! Why a text, a line or a word is refused. Each fault holds the fault below it whole.
 ghost use Rattle.request.specs.Faults.{lineLayer, lineNumber, lineWord, numberLayer, numberNumber, numberWord, runLayer, runNumber, runWord};
 ghost use Rattle.request.specs.declared.fault.LineFault.the-variants.{Number};
 ghost use Rattle.request.specs.declared.fault.RunFault.the-variants.{Line};

@@ -1,4 +1,4 @@
-// The layers that may refuse a request.
+//! The layers that may refuse a request.
 ghost use Rattle.std.specs.declared.option.Option.the-variants.{Some};
 ghost use Rattle.request.specs.Faults.{layerBytes};
 use std::fmt;

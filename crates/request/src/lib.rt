@@ -1,4 +1,4 @@
-// Requests, read from the text that tenants hand in.
+//! Requests, read from the text that tenants hand in.
 pub mod act;
 mod bytes;
 pub mod fault;

@@ -1,4 +1,4 @@
-// The lines of a text.
+//! The lines of a text.
 ghost use Prim.Native.Nat.{_<_};
 ghost use Rattle.std.specs.Options.{Cases as BySome};
 ghost use Rattle.request.specs.Lines.{linesOf};

@@ -1,4 +1,4 @@
-// The number that a word writes.
+//! The number that a word writes.
 ghost use Rattle.request.specs.Numbers.{readNumber};
 ghost use mathlib.Core.Path.{_≡_};
 use crate::fault::NumberFault;

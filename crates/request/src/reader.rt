@@ -1,4 +1,4 @@
-// A whole text, read line by line.
+//! A whole text, read line by line.
 ghost use Prim.Native.Nat.{_≤_};
 ghost use Rattle.std.specs.Of.Vec.{vec-items};
 ghost use Rattle.std.specs.Results.{Cases};

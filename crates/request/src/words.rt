@@ -1,4 +1,4 @@
-// The words of a line.
+//! The words of a line.
 ghost use Prim.Native.Nat.{ℕ, suc, _<_};
 ghost use Rattle.std.specs.Results.{Cases};
 ghost use Rattle.std.specs.declared.result.Result.the-variants.{Ok, Err};

@@ -1,4 +1,4 @@
-// The answer table.
+//! The answer table.
 ghost use Rattle.request.specs.Faults.{layerBytes};
 ghost use Rattle.std.specs.Of.String.{string-bytes};
 ghost use Rattle.std.specs.Vec.{made};

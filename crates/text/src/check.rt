@@ -1,4 +1,4 @@
-// A text checked without being served: the table that says how each line reads.
+//! A text checked without being served: the table that says how each line reads.
 ghost use Rattle.std.specs.Of.String.{string-bytes};
 ghost use Rattle.std.specs.Of.Vec.{vec-items};
 ghost use Rattle.std.specs.Vec.{made};

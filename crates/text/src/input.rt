@@ -1,4 +1,4 @@
-// The bytes of a text, from where it comes.
+//! The bytes of a text, from where it comes.
 ghost use Prim.Native.Nat.{_+_, _≤_};
 ghost use Rattle.std.specs.Of.Vec.{vec-items, vec-len};
 ghost use Rattle.std.specs.Vec.{made};

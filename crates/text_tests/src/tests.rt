@@ -1,4 +1,4 @@
-// Cases for every act and every fault, and for the bytes and sizes at the edges.
+//! Cases for every act and every fault, and for the bytes and sizes at the edges.
 use request::act::Act;
 use request::act::Request;
 use request::act::RequestDebug;
