@@ -1,8 +1,8 @@
 //! A splitter: sites in branches, each branch a group, whose sites share one trunk of an up-fibre and a down-fibre.
 ghost use Rattle.std.specs.Prelude.{◌≡◌, ℕ, ◌≤◌, true, length, take, slice_index_or};
 ghost use Rattle.network.specs.Network.{Bounded, splitter_network, splitter_stored, sound_splitter};
-ghost use Rattle.network.specs.Splitters.{splitter_separate, splitter_meeting};
-ghost use Rattle.std.proofs.Common.{rules, arith};
+ghost use Rattle.network.specs.Splitters.{splitter_bounded, splitter_outside, splitter_grouped, splitter_separate, splitter_meeting};
+ghost use Rattle.network.specs.Verdicts.{splitter_branched};
 
 use crate::check::{SPLITTER_SITES, check_splitter};
 use crate::layout::Layout;
@@ -57,11 +57,11 @@ impl Splitter {
 impl Layout for Splitter {
     ghost network = { λ s. splitter_stored s.sites s.ports s.entries s.branches };
 
-    ghost bounded = { first_of (Prim.search rules, Prim.grind (arith, Self.row.coded.inj)) };
+    ghost bounded = { λ x. splitter_bounded (take x.sites x.ports) (take x.sites x.entries) x.branches (splitter_branched (take x.sites x.ports) (take x.sites x.entries) x.branches x.sound) };
 
-    ghost outside = { first_of (Prim.search rules, Prim.grind (arith, Self.row.coded.inj)) };
+    ghost outside = { λ x. splitter_outside (take x.sites x.ports) (take x.sites x.entries) x.branches (splitter_branched (take x.sites x.ports) (take x.sites x.entries) x.branches x.sound) };
 
-    ghost grouped = { first_of (Prim.search rules, Prim.grind (arith, Self.row.coded.inj)) };
+    ghost grouped = { λ x. splitter_grouped (take x.sites x.ports) (take x.sites x.entries) x.branches (splitter_branched (take x.sites x.ports) (take x.sites x.entries) x.branches x.sound) };
 
     ghost separate = { λ x. splitter_separate (take x.sites x.ports) (take x.sites x.entries) x.branches };
 

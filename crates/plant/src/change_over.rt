@@ -25,9 +25,9 @@ fn turn<P: Plant>(
     next: Retuning,
 ) -> Result<Slip, PlantRefusal>
     requires { held ≡ slip_of dark }
-    ensures answer { result ≡ slip_for (answer_to_all (state plant.old) (darkening next ∷ (relighting dark ∷ []))) next.wavelength next.source next.destination }
-    ensures after { state plant.new ≡ until_refused (state plant.old) (darkening next ∷ (relighting dark ∷ [])) }
-    ensures kept { kept plant.new ≡ kept plant.old }
+    ensures answer { result ≡ slip_for (answer_to_all (P.state plant.old) (darkening next ∷ (relighting dark ∷ []))) next.wavelength next.source next.destination }
+    ensures after { P.state plant.new ≡ until_refused (P.state plant.old) (darkening next ∷ (relighting dark ∷ [])) }
+    ensures kept { P.kept plant.new ≡ P.kept plant.old }
 {
     let slip = match take_down(plant, next.wavelength, next.source, next.destination) {
         Ok(slip) => slip,
@@ -53,9 +53,9 @@ fn go_back<P: Plant>(
     chain: &[Retuning],
 ) -> Result<(), PlantRefusal>
     requires { held ≡ slip_of last }
-    ensures answer { result ≡ answer_to_all (state plant.old) (onward last (reverse chain.now)) }
-    ensures after { state plant.new ≡ until_refused (state plant.old) (onward last (reverse chain.now)) }
-    ensures kept { kept plant.new ≡ kept plant.old }
+    ensures answer { result ≡ answer_to_all (P.state plant.old) (onward last (reverse chain.now)) }
+    ensures after { P.state plant.new ≡ until_refused (P.state plant.old) (onward last (reverse chain.now)) }
+    ensures kept { P.kept plant.new ≡ P.kept plant.old }
 {
     let mut held = held;
     let mut dark = last;
@@ -80,14 +80,14 @@ fn last_of(chain: &[Retuning]) -> Option<Retuning>
 
 // Proof only: orders that are accepted in turn are answered so, and leave the plant as they say; and what is lit stays a matching.
 fn all_taken<P: Plant>(plant: &P, chain: &[Retuning])
-    ensures accepted { AllAccepted (state plant.now) (change_over chain.now) → (answer_to_all (state plant.now) (change_over chain.now) ≡ Ok tt) × (until_refused (state plant.now) (change_over chain.now) ≡ after_all (state plant.now) (change_over chain.now)) }
-    ensures matching { (t : Switch) → t ≡ until_refused (state plant.now) (change_over chain.now) → Matching (state plant.now) → Matching t }
+    ensures accepted { AllAccepted (P.state plant.now) (change_over chain.now) → (answer_to_all (P.state plant.now) (change_over chain.now) ≡ Ok tt) × (until_refused (P.state plant.now) (change_over chain.now) ≡ after_all (P.state plant.now) (change_over chain.now)) }
+    ensures matching { (t : Switch) → t ≡ until_refused (P.state plant.now) (change_over chain.now) → Matching (P.state plant.now) → Matching t }
 {}
 
 fn from_the_last<P: Plant>(plant: &mut P, chain: &[Retuning]) -> Result<(), PlantRefusal>
-    ensures answer { result ≡ answer_to_all (state plant.old) (change_over chain.now) }
-    ensures after { state plant.new ≡ until_refused (state plant.old) (change_over chain.now) }
-    ensures kept { kept plant.new ≡ kept plant.old }
+    ensures answer { result ≡ answer_to_all (P.state plant.old) (change_over chain.now) }
+    ensures after { P.state plant.new ≡ until_refused (P.state plant.old) (change_over chain.now) }
+    ensures kept { P.kept plant.new ≡ P.kept plant.old }
 {
     let Some(last) = last_of(chain) else {
         return Ok(());
@@ -99,11 +99,11 @@ fn from_the_last<P: Plant>(plant: &mut P, chain: &[Retuning]) -> Result<(), Plan
 /// Darkens the last lightpath of the chain; then, going back, darkens each and lights the one after it on its new wavelength; and lights the first.
 /// It ends at the first order that the plant refuses, with every slip spent.
 pub fn change_over<P: Plant>(plant: &mut P, chain: &[Retuning]) -> Result<(), PlantRefusal>
-    ensures answer { result ≡ answer_to_all (state plant.old) (change_over chain.now) }
-    ensures after { state plant.new ≡ until_refused (state plant.old) (change_over chain.now) }
-    ensures kept { kept plant.new ≡ kept plant.old }
-    ensures accepted { AllAccepted (state plant.old) (change_over chain.now) → (result ≡ Ok tt) × (state plant.new ≡ after_all (state plant.old) (change_over chain.now)) }
-    ensures matching { Matching (state plant.old) → Matching (state plant.new) }
+    ensures answer { result ≡ answer_to_all (P.state plant.old) (change_over chain.now) }
+    ensures after { P.state plant.new ≡ until_refused (P.state plant.old) (change_over chain.now) }
+    ensures kept { P.kept plant.new ≡ P.kept plant.old }
+    ensures accepted { AllAccepted (P.state plant.old) (change_over chain.now) → (result ≡ Ok tt) × (P.state plant.new ≡ after_all (P.state plant.old) (change_over chain.now)) }
+    ensures matching { Matching (P.state plant.old) → Matching (P.state plant.new) }
 {
     all_taken(plant, chain);
     from_the_last(plant, chain)

@@ -23,9 +23,9 @@ pub struct Slip {
 
 /// Darkens, and hands out a slip that names what was lit.
 pub fn take_down<P: Plant>(plant: &mut P, w: u8, a: u8, b: u8) -> Result<Slip, PlantRefusal>
-    ensures answer { result ≡ slip_for (darken_answer (state plant.old) w a b) w a b }
-    ensures after { state plant.new ≡ dark_after (state plant.old) w a b }
-    ensures kept { kept plant.new ≡ kept plant.old }
+    ensures answer { result ≡ slip_for (darken_answer (P.state plant.old) w a b) w a b }
+    ensures after { P.state plant.new ≡ dark_after (P.state plant.old) w a b }
+    ensures kept { P.kept plant.new ≡ P.kept plant.old }
 {
     plant.darken(w, a, b)?;
     Ok(Slip {
@@ -37,9 +37,9 @@ pub fn take_down<P: Plant>(plant: &mut P, w: u8, a: u8, b: u8) -> Result<Slip, P
 
 /// Lights the slip's groups again, on the wavelength `v`. The slip is spent, also where the plant refuses.
 pub fn relight<P: Plant>(plant: &mut P, slip: Slip, v: u8) -> Result<(), PlantRefusal>
-    ensures answer { result ≡ light_answer (state plant.old) v slip.source slip.destination }
-    ensures after { state plant.new ≡ lit_after (state plant.old) v slip.source slip.destination }
-    ensures kept { kept plant.new ≡ kept plant.old }
+    ensures answer { result ≡ light_answer (P.state plant.old) v slip.source slip.destination }
+    ensures after { P.state plant.new ≡ lit_after (P.state plant.old) v slip.source slip.destination }
+    ensures kept { P.kept plant.new ≡ P.kept plant.old }
 {
     let Slip {
         wavelength: _,

@@ -4,4 +4,4 @@ use Rattle.std.proofs.lemmas.List.{take_at}
 use Rattle.network.proofs.stored.store.Goals as goal
 
 pub returns : goal.returns
-returns c = record { count = refl; kept = take_at c.copy-from-slice.new.self _ _ (ap length c.copy-from-slice.ensures.after) ∙ c.copy-from-slice.ensures.after }
+returns c = record { count = refl; kept = take_at c.copy_from_slice.new.self _ _ (ap length c.copy_from_slice.ensures.after) ∙ c.copy_from_slice.ensures.after }
