@@ -27,28 +27,28 @@ last_lit t held dark e =
     let s = single t (relighting dark) in
     (ap (λ (x : Slip). light_answer t dark.onto x.source x.destination) e ∙ s.0, ap (λ (x : Slip). lit_after t dark.onto x.source x.destination) e ∙ s.1)
 
-pub returns-in-err-held : goal.returns-in-err-held
-returns-in-err-held g c =
-    let p = err_from_is_err_and c.from-residual.result c.from-residual.ensures.1 in
+pub returns-in_err-held : goal.returns-in_err-held
+returns-in_err-held g c =
+    let p = err_from_is_err_and c.from_residual.result c.from_residual.ensures.1 in
     let lo : 0 < c.loop-i.i = omega arith in
     let hi : c.loop-i.i ≤ length c.args.chain.now = omega arith in
-    let r = turned_down _ _ _ _ _ c.in-err-held.ensures.answer in
-    let b = broken_off (g.P.Plant.state c.loop-i.plant) _ _ c.loop-i.dark _ _ _ _ (opened _ _ _ _ _ _ lo hi c.loop-i.invariant.1) r c.in-err-held.ensures.after in
+    let r = turned_down _ _ _ _ _ c.in_err-held.ensures.answer in
+    let b = broken_off (g.P.Plant.state c.loop-i.plant) _ _ c.loop-i.dark _ _ _ _ (opened _ _ _ _ _ _ lo hi c.loop-i.invariant.1) r c.in_err-held.ensures.after in
     let w = whole c.args.last c.args.chain.now in
     record {
       answer = p.1 ∙ ap Err p.2 ∙ b.0 ∙ ap (answer_to_all (g.P.Plant.state c.args.plant.now)) w;
       after = b.1 ∙ ap (until_refused (g.P.Plant.state c.args.plant.now)) w;
-      kept = c.in-err-held.ensures.kept ∙ c.loop-i.invariant.2;
+      kept = c.in_err-held.ensures.kept ∙ c.loop-i.invariant.2;
     }
 
 pub loop-i-preserved : goal.loop-i-preserved
 loop-i-preserved g c =
     let lo : 0 < c.loop-i.i = omega arith in
     let hi : c.loop-i.i ≤ length c.args.chain.now = omega arith in
-    let s = handed_out _ _ _ _ _ c.in-ok-held.ensures.answer in (
+    let s = handed_out _ _ _ _ _ c.in_ok-held.ensures.answer in (
       s.1,
-      turned (g.P.Plant.state c.loop-i.plant) _ _ c.loop-i.dark _ _ _ (opened _ _ _ _ _ _ lo hi c.loop-i.invariant.1) s.0 c.in-ok-held.ensures.after,
-      c.in-ok-held.ensures.kept ∙ c.loop-i.invariant.2,
+      turned (g.P.Plant.state c.loop-i.plant) _ _ c.loop-i.dark _ _ _ (opened _ _ _ _ _ _ lo hi c.loop-i.invariant.1) s.0 c.in_ok-held.ensures.after,
+      c.in_ok-held.ensures.kept ∙ c.loop-i.invariant.2,
     )
 
 pub returns : goal.returns

@@ -4,8 +4,8 @@ use Rattle.plant.proofs.Answers.{lightable}
 use Rattle.plant.proofs.Writing.{entered, behind_kept}
 use Rattle.plant.proofs.fabric.RegisterFabric.enter.Goals as goal
 
-pub overflow-add-self : goal.overflow-add-self
-overflow-add-self c = let able = lightable _ _ _ _ c.requires in omega (arith, able.source, c.counts-waves.ensures.groups, c.counts-waves.ensures.few.1)
+pub overflow_add-self : goal.overflow_add-self
+overflow_add-self c = let able = lightable _ _ _ _ c.requires in omega (arith, able.source, c.counts-waves.ensures.groups, c.counts-waves.ensures.few.1)
 
 pub place-requires : goal.place-requires
 place-requires c = let able = lightable _ _ _ _ c.requires in (omega (arith, able.wave, c.counts-waves.ensures.waves), omega (arith, able.destination, c.counts-waves.ensures.groups))

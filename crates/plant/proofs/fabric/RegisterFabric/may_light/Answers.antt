@@ -9,5 +9,5 @@ pub returns : goal.returns
 returns c =
     let h = c.args.self.now in
     let t = fabric_switch h.waves h.groups h.registers.now in
-    let e = c.ask-light.ensures ∙ asked_light t c.args.w c.args.a c.args.b _ _ c.counts.ensures.waves c.counts.ensures.groups _ c.source-at-heard.ensures _ c.target-of-steered.ensures in
+    let e = c.ask_light.ensures ∙ asked_light t c.args.w c.args.a c.args.b _ _ c.counts.ensures.waves c.counts.ensures.groups _ c.source_at-heard.ensures _ c.target_of-steered.ensures in
     record { answer = e; kept = kept_if_refused t (order.light c.args.w c.args.a c.args.b) _ e }

@@ -9,5 +9,5 @@ pub returns : goal.returns
 returns c =
     let h = c.args.self.now in
     let t = mirror_switch h.waves h.groups h.mirrors in
-    let e = c.ask-darken.ensures ∙ asked_darken t c.args.w c.args.a c.args.b _ _ c.counts.ensures.counts.0 c.counts.ensures.counts.1 _ c.source-at.ensures in
+    let e = c.ask_darken.ensures ∙ asked_darken t c.args.w c.args.a c.args.b _ _ c.counts.ensures.counts.0 c.counts.ensures.counts.1 _ c.source_at.ensures in
     record { answer = e; kept = kept_if_refused t (order.darken c.args.w c.args.a c.args.b) _ e }
