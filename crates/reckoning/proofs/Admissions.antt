@@ -4,7 +4,7 @@ use Rattle.std.specs.List.{AllByRecursion as All}
 use Rattle.std.proofs.lemmas.Bool.{both_ways, and_parts, not-true, ltb-true, leb-false, eqb-true, eq-eqb, ne_eqb}
 use Rattle.std.proofs.lemmas.List.{length-append, length-reverse}
 use Rattle.std.proofs.ByRecursion.{All-take, All-drop}
-use Rattle.std.proofs.lemmas.List.Sums.{sum_by_cons}
+use Rattle.std.proofs.lemmas.List.Sums.{sum_by-cons}
 use Rattle.network.specs.Network.{Ends}
 use Rattle.plant.specs.Switch.{Switch}
 use Rattle.reckoning.specs.declared.session.Session.{Session}
@@ -97,7 +97,7 @@ count_same : (p q : Session → Bool) (xs : List Session) → ((x : Session) →
 count_same p q [] h = refl
 count_same p q (x ∷ xs) h =
     let same : ◌≡◌ {A = ℕ} (cond (p x) 1 0) (cond (q x) 1 0) = ap (λ b. cond b 1 0) (h x (inl refl)) in
-    omega (arith, same, sum_by_cons (λ y. cond (p y) 1 0) x xs, sum_by_cons (λ y. cond (q y) 1 0) x xs, count_same p q xs (λ y i. h y (inr i)))
+    omega (arith, same, sum_by-cons (λ y. cond (p y) 1 0) x xs, sum_by-cons (λ y. cond (q y) 1 0) x xs, count_same p q xs (λ y i. h y (inr i)))
 
 -- ---- how many orders
 

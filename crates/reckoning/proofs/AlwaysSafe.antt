@@ -1,6 +1,6 @@
 -- Every run of calls keeps the laws.
 use Rattle.std.proofs.Common.{◌≡◌, ℕ, ◌+◌, ◌<◌, cond, List, [], ◌∷◌, length, refl, inl, inr, arith}
-use Rattle.std.proofs.lemmas.List.Sums.{sum_by_cons}
+use Rattle.std.proofs.lemmas.List.Sums.{sum_by-cons}
 use Rattle.network.specs.Network.{Network, Grouped, Separate}
 use Rattle.network.proofs.Laws.{one_group}
 use Rattle.plant.specs.Switch.{Switch}
@@ -33,8 +33,8 @@ module _ (L : Parts) (low_group : (s : ℕ) → s < L.sites → L.group s < L.gr
         arith,
         reply_tally L low_group room ss k walk c,
         tally r.after (sound_reply L low_group room ss k walk c) r.walk cs,
-        sum_by_cons (λ (x : Reply). cond (is_admitted x.answer) 1 0) r rs,
-        sum_by_cons (λ (x : Reply). cond (is_released x.answer) 1 0) r rs,
+        sum_by-cons (λ (x : Reply). cond (is_admitted x.answer) 1 0) r rs,
+        sum_by-cons (λ (x : Reply). cond (is_released x.answer) 1 0) r rs,
       )
 
 safe : (n : Network) (p : Switch) → Grouped n → Separate n → (ss : List Session) → Sound (parts_told n p) ss → Safe n (parts_told n p) ss

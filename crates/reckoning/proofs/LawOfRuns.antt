@@ -1,6 +1,6 @@
 -- Every run of calls keeps the law.
 use Rattle.std.proofs.Common.{◌+◌, cond, List, [], ◌∷◌, sym, ap, subst, arith}
-use Rattle.std.proofs.lemmas.List.Sums.{sum_by_cons}
+use Rattle.std.proofs.lemmas.List.Sums.{sum_by-cons}
 use Rattle.network.specs.Network.{Network, Grouped, Separate}
 use Rattle.reckoning.specs.declared.call.Call.{Call}
 use Rattle.reckoning.specs.Parts.{Parts}
@@ -28,8 +28,8 @@ module _ (n : Network) (L : Parts) (f : Behind n L) where
           tally_after n L f m m' s.sound s.carried c a x,
           lit_count L m.standing s.sound m.plant s.carried,
           lit_count L m'.standing sound m'.plant carried,
-          sum_by_cons (λ (y : Answer). cond (is_admitted y) 1 0) a rest,
-          sum_by_cons (λ (y : Answer). cond (is_released y) 1 0) a rest,
+          sum_by-cons (λ (y : Answer). cond (is_admitted y) 1 0) a rest,
+          sum_by-cons (λ (y : Answer). cond (is_released y) 1 0) a rest,
         );
         end = r.end;
       }

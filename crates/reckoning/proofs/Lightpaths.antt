@@ -1,7 +1,7 @@
 -- A plant that carries the standing sessions and nothing else has as many lit lightpaths as sessions stand.
 use Rattle.std.proofs.Common.{◌≡◌, ℕ, ◌+◌, ◌<◌, ◌≤◌, true, false, List, [], ◌∷◌, ◌++◌, map, length, is_some, Some, None, sum_by, count_by, filter, Option, sym, refl, ap, ◌∙◌, subst, ap₂, inl, inr, arith}
 use Rattle.std.specs.List.{range_with_len}
-use Rattle.std.proofs.lemmas.List.Sums.{length-filter, sum_by_cons}
+use Rattle.std.proofs.lemmas.List.Sums.{length-filter, sum_by-cons}
 use Rattle.std.proofs.lemmas.List.{length-map, length-append}
 use Rattle.std.proofs.lemmas.Bool.{both_ways}
 use Rattle.reckoning.specs.Lists.{In, Distinct}
@@ -25,7 +25,7 @@ module _ (G : ℕ) (hears : Hears) where
   rows_length [] = refl
   rows_length (w ∷ ws) =
       let lit : List ℕ = filter (λ b. is_some (hears w b)) (range_with_len 0 G) in
-      omega (arith, rows_length ws, sum_by_cons (λ w. count_by (λ b. is_some (hears w b)) (range_with_len 0 G)) w ws, length-append (row w) (rows ws), length-map {B = ℕ × ℕ} lit (λ b. (w, b)), length-filter (λ b. is_some (hears w b)) (range_with_len 0 G))
+      omega (arith, rows_length ws, sum_by-cons (λ w. count_by (λ b. is_some (hears w b)) (range_with_len 0 G)) w ws, length-append (row w) (rows ws), length-map {B = ℕ × ℕ} lit (λ b. (w, b)), length-filter (λ b. is_some (hears w b)) (range_with_len 0 G))
 
   in_row : (w : ℕ) (z : ℕ × ℕ) → In z (row w) → (z.0 ≡ w) × (is_some (hears w z.1) ≡ true)
   unfolding row

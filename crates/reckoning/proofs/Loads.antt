@@ -3,7 +3,7 @@ use Rattle.std.proofs.Common.{◌≡◌, ℕ, zero, suc, ◌+◌, ◌-◌, ◌^�
 use lib.Bits.{bit_or}
 use lib.Count.{ones, count_trailing_zeros}
 use Rattle.std.specs.List.{range_with_len, prefix_len}
-use Rattle.std.proofs.lemmas.List.Sums.{sum_by_cons}
+use Rattle.std.proofs.lemmas.List.Sums.{sum_by-cons}
 use Rattle.std.proofs.lemmas.Bool.{cases_Bool}
 use Rattle.reckoning.specs.declared.session.Session.{Session}
 use Rattle.reckoning.specs.Lists.{lowest}
@@ -18,14 +18,14 @@ none_lit : (lit : ℕ → Bool) (k a : ℕ) → ((w : ℕ) → a ≤ w → lit w
 none_lit lit zero a h = refl
 none_lit lit (suc k) a h =
     let one : ◌≡◌ {A = ℕ} (cond (lit a) 1 0) 0 = ap (λ (b : Bool). cond b 1 0) (h a (omega arith)) in
-    omega (arith, sum_by_cons (λ x. cond (lit x) 1 0) a (range_with_len (a + 1) k), one, none_lit lit k (a + 1) (λ w l. h w (omega arith)))
+    omega (arith, sum_by-cons (λ x. cond (lit x) 1 0) a (range_with_len (a + 1) k), one, none_lit lit k (a + 1) (λ w l. h w (omega arith)))
 
 -- what is lit is below a + n
 count_cut : (lit : ℕ → Bool) (n m a : ℕ) → n ≤ m → ((w : ℕ) → a + n ≤ w → lit w ≡ false) → count_by lit (range_with_len a m) ≡ count_by lit (range_with_len a n)
 count_cut lit zero m a l h = none_lit lit m a (λ w k. h w (omega arith))
 count_cut lit (suc n) zero a l h = let e : ⊥ = omega arith in absurd e
 count_cut lit (suc n) (suc m) a l h =
-    omega (arith, sum_by_cons (λ x. cond (lit x) 1 0) a (range_with_len (a + 1) n), sum_by_cons (λ x. cond (lit x) 1 0) a (range_with_len (a + 1) m), count_cut lit n m (a + 1) (omega arith) (λ w k. h w (omega arith)))
+    omega (arith, sum_by-cons (λ x. cond (lit x) 1 0) a (range_with_len (a + 1) n), sum_by-cons (λ x. cond (lit x) 1 0) a (range_with_len (a + 1) m), count_cut lit n m (a + 1) (omega arith) (λ w k. h w (omega arith)))
 
 leading_cut : (f : ℕ → Bool) (n m a : ℕ) → n ≤ m → prefix_len f (range_with_len a n) ≡ min n (prefix_len f (range_with_len a m))
 leading_cut f zero m a l = omega arith

@@ -3,7 +3,7 @@ use Rattle.std.proofs.Common.{◌≡◌, ℕ, zero, suc, ◌+◌, ◌-◌, ◌*�
 use lib.Bits.{bit_or, or_step}
 use lib.Count.{ones, ones_step, count_trailing_zeros, under}
 use Rattle.std.specs.List.{range_with_len, prefix_len}
-use Rattle.std.proofs.lemmas.List.Sums.{sum_by_cons}
+use Rattle.std.proofs.lemmas.List.Sums.{sum_by-cons}
 use Rattle.reckoning.specs.Masks.{mask_from}
 
 -- a bit and the rest
@@ -31,7 +31,7 @@ ones_mask lit (suc n) a =
     let m = mask_from lit (a + 1) n in
     ones_step (cond (lit a) 1 0 + 2 * m)
     ∙ (rw (bit_low (lit a) m, bit_rest (lit a) m) (ap (λ k. cond (lit a) 1 0 + k) (ones_mask lit n (a + 1)))
-    ∙ sym (sum_by_cons (λ x. cond (lit x) 1 0) a (range_with_len (a + 1) n)))
+    ∙ sym (sum_by-cons (λ x. cond (lit x) 1 0) a (range_with_len (a + 1) n)))
 
 -- trailing ones: the lowest that is not lit
 pub trailing_mask : (lit : ℕ → Bool) (n a : ℕ) → count_trailing_zeros n (2 ^ n - 1 - mask_from lit a n) ≡ prefix_len lit (range_with_len a n)

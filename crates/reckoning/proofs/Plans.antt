@@ -1,6 +1,6 @@
 -- What an admission plans keeps the sessions clear of one another and moves fewer sessions than there are groups.
 use Rattle.std.proofs.Common.{◌≡◌, ℕ, zero, suc, ◌+◌, ◌*◌, ◌<◌, ◌≤◌, Bool, true, false, cond, not, ◌&&◌, eqb, ltb, leb, ◌⊎◌, List, [], ◌∷◌, ◌++◌, map, reverse, length, Some, count_by, filter, Option, sym, refl, ap, ◌∙◌, subst, inl, inr, arith}
-use Rattle.std.proofs.lemmas.List.Sums.{length-filter, sum_by_cons}
+use Rattle.std.proofs.lemmas.List.Sums.{length-filter, sum_by-cons}
 use Rattle.std.proofs.lemmas.Bool.{cases_Bool, both_ways, and_from, and_parts, not-true, not_from_false, not_from_true, eq-eqb, ne_eqb, ltb-true, ltb-false, leb-true, leb-false}
 use Rattle.reckoning.specs.Lists.{In, Pairwise, Distinct, first, lowest, chain}
 use Rattle.reckoning.specs.declared.session.Session.{Session}
@@ -31,7 +31,7 @@ count_none p [] h = refl
 count_none p (x ∷ xs) h =
     let rest = count_none p xs (λ y i. h y (inr i)) in
     let none : ◌≡◌ {A = ℕ} (cond (p x) 1 0) 0 = ap (λ b. cond b 1 0) (h x (inl refl)) in
-    sum_by_cons (λ y. cond (p y) 1 0) x xs ∙ omega (arith, rest, none)
+    sum_by-cons (λ y. cond (p y) 1 0) x xs ∙ omega (arith, rest, none)
 
 module _ (g : ℕ → ℕ) (W G : ℕ) (ss : List Session) (sound : Colouring g W G ss) (a b : ℕ) (a_low : a < G) where
   module _ (w : ℕ) (w-low : w < W) (unlit-out : lit_out g ss a w ≡ false) (unlit-in : lit_into g ss b w ≡ false) where

@@ -2,7 +2,7 @@
 use Rattle.std.proofs.Common.{◌≡◌, ℕ, zero, suc, ◌+◌, ◌<◌, ◌≤◌, Bool, true, false, cond, not, eqb, List, [], ◌∷◌, map, Some, None, count_by, filter, Option, sym, refl, ap, subst, arith}
 use Rattle.std.proofs.lemmas.Bool.{eqb-true, ltb-true}
 use Rattle.std.proofs.ByRecursion.{All-drop}
-use Rattle.std.proofs.lemmas.List.Sums.{sum_by_cons}
+use Rattle.std.proofs.lemmas.List.Sums.{sum_by-cons}
 use Rattle.reckoning.specs.declared.session.Session.{Session}
 use Rattle.reckoning.specs.declared.call.Call.{Call}
 use Rattle.reckoning.specs.declared.call.Call.TheVariants.{Admit, Release, Quote, Where, List as Rows}
@@ -21,7 +21,7 @@ use Rattle.reckoning.proofs.Runs.{still_quote, still_locate, still_list}
 
 module _ (p : Session → Bool) where
   count_cons : (x : Session) (xs : List Session) → count_by p (x ∷ xs) ≡ cond (p x) 1 0 + count_by p xs
-  count_cons = sum_by_cons (λ y. cond (p y) 1 0)
+  count_cons = sum_by-cons (λ y. cond (p y) 1 0)
 
   count_map : (f : Session → Session) → ((x : Session) → p (f x) ≡ p x) → (xs : List Session) → count_by p (map f xs) ≡ count_by p xs
   count_map f h [] = refl

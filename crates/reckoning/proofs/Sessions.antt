@@ -2,7 +2,7 @@
 use Rattle.std.proofs.Common.{◌≡◌, ℕ, zero, suc, ◌+◌, ◌<◌, ◌≤◌, Bool, true, false, cond, not, eqb, ◌⊎◌, List, [], ◌∷◌, Some, None, count_by, sym, refl, ap, ◌∙◌, subst, inl, inr, arith}
 use Rattle.std.specs.List.{prefix_len, range_with_len}
 use Rattle.std.proofs.lemmas.Bool.{cases_eq, cases_lt, not-false, eqb-true, eq-eqb, ne_eqb, both_ways, and_parts, and_from}
-use Rattle.std.proofs.lemmas.List.Sums.{sum_by_cons}
+use Rattle.std.proofs.lemmas.List.Sums.{sum_by-cons}
 use Rattle.reckoning.specs.Lists.{In, Pairwise, first, any, lowest}
 use Rattle.reckoning.specs.declared.session.Session.{Session}
 use Rattle.reckoning.specs.Standing.{leaves, enters}
@@ -23,7 +23,7 @@ all_lit lit zero a h = refl
 all_lit lit (suc n) a h =
     let r = all_lit lit n (a + 1) (λ w u v. h w (omega arith) (omega arith)) in
     let one : ◌≡◌ {A = ℕ} (cond (lit a) 1 0) 1 = ap (λ b. cond b 1 0) (h a (omega arith) (omega arith)) in
-    sum_by_cons (λ x. cond (lit x) 1 0) a (range_with_len (a + 1) n) ∙ omega (arith, r, one)
+    sum_by-cons (λ x. cond (lit x) 1 0) a (range_with_len (a + 1) n) ∙ omega (arith, r, one)
 
 pub first_found : {A : Type 0} (p : A → Bool) (xs : List A) (x : A) → first p xs ≡ Some x → In x xs × (p x ≡ true)
 first_found p [] x e = absurd (none_some x e)

@@ -7,5 +7,5 @@ pub loop-line-preserved : goal.loop-line-preserved
 loop-line-preserved c =
     let cut = c.in-Some.ensures in (
       omega arith,
-      turn (vec_items c.loop-line.entries) (vec_items c.push.new.self) (read_lines 2 (lines_of c.args.text.now)) c.loop-line.number c.loop-line.rest.now c.in-Some.behind.now _ _ cut.0 c.line-outcome.ensures c.in-ok-push.ensures.items c.loop-line.invariant.1,
+      turn (vec_items c.loop-line.entries) (vec_items c.push.new.self) (read_lines 2 (lines_of c.args.text.now)) c.loop-line.number c.loop-line.rest.now c.in-Some.behind.now _ _ cut.0 c.line_outcome.ensures c.in_ok-push.ensures.items c.loop-line.invariant.1,
     )

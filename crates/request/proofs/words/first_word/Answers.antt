@@ -10,4 +10,4 @@ returns-then-n-eq0 c = (
 )
 
 pub returns : goal.returns
-returns c = (rw length-take (omega arith), split_cut c.count-before-n.result c.args.bytes.now c.count-before-n.ensures.value c.if-n-bytes.false)
+returns c = (rw length-take (omega arith), split_cut c.count_before-n.result c.args.bytes.now c.count_before-n.ensures.value c.if-n-bytes.false)
