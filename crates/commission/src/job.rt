@@ -42,9 +42,9 @@ fn light_all<P: Plant>(
     plant: &mut P,
     plan: &[Lightpath],
 ) -> Result<Vec<u8>, AllocError>
-    ensures told { IfOk result (λ v. v.items ≡ answers_to (state plant.old) plan.now) }
-    ensures after { OnOk result (state plant.new ≡ after_all (state plant.old) (map lighting plan.now)) }
-    ensures kept { OnOk result (kept plant.new ≡ kept plant.old) }
+    ensures told { IfOk result (λ v. v.items ≡ answers_to (P.state plant.old) plan.now) }
+    ensures after { OnOk result (P.state plant.new ≡ after_all (P.state plant.old) (map lighting plan.now)) }
+    ensures kept { OnOk result (P.kept plant.new ≡ P.kept plant.old) }
 {
     let mut answers = Vec::new(heap);
     for path in plan {
@@ -55,9 +55,9 @@ fn light_all<P: Plant>(
 }
 
 fn put_out<P: Plant>(plant: &mut P, path: Lightpath) -> Result<(), PlantRefusal>
-    ensures answer { result ≡ answer_to (state plant.old) (darkening path) }
-    ensures after { state plant.new ≡ after (state plant.old) (darkening path) }
-    ensures kept { kept plant.new ≡ kept plant.old }
+    ensures answer { result ≡ answer_to (P.state plant.old) (darkening path) }
+    ensures after { P.state plant.new ≡ after (P.state plant.old) (darkening path) }
+    ensures kept { P.kept plant.new ≡ P.kept plant.old }
 {
     let slip = take_down(plant, path.wavelength, path.source, path.destination)?;
     let _ = retire(slip);
@@ -66,12 +66,12 @@ fn put_out<P: Plant>(plant: &mut P, path: Lightpath) -> Result<(), PlantRefusal>
 
 /// Lights the plan on any plant, changes both chains over, and puts the last lightpath out.
 pub(crate) fn work<P: Plant>(heap: Global, plant: &mut P, job: Job) -> Result<Answers, AllocError>
-    ensures lit { IfOk result (λ a. a.lit.items ≡ answers_to (state plant.old) job.entry.plan.now) }
-    ensures chain { IfOk result (λ a. a.chain ≡ answer_number (answer_to_all (plan_lit (state plant.old) job.entry.plan.now) (change_over job.entry.chain.now))) }
-    ensures other { IfOk result (λ a. a.other ≡ answer_number (answer_to_all (chain_moved (state plant.old) job.entry.plan.now job.entry.chain.now) (change_over job.entry.other.now))) }
-    ensures last { IfOk result (λ a. a.last ≡ answer_number (answer_to (other_moved (state plant.old) job.entry.plan.now job.entry.chain.now job.entry.other.now) (darkening job.entry.last))) }
-    ensures after { OnOk result (state plant.new ≡ after_job (state plant.old) job.entry.plan.now job.entry.chain.now job.entry.other.now job.entry.last) }
-    ensures kept { OnOk result (kept plant.new ≡ kept plant.old) }
+    ensures lit { IfOk result (λ a. a.lit.items ≡ answers_to (P.state plant.old) job.entry.plan.now) }
+    ensures chain { IfOk result (λ a. a.chain ≡ answer_number (answer_to_all (plan_lit (P.state plant.old) job.entry.plan.now) (change_over job.entry.chain.now))) }
+    ensures other { IfOk result (λ a. a.other ≡ answer_number (answer_to_all (chain_moved (P.state plant.old) job.entry.plan.now job.entry.chain.now) (change_over job.entry.other.now))) }
+    ensures last { IfOk result (λ a. a.last ≡ answer_number (answer_to (other_moved (P.state plant.old) job.entry.plan.now job.entry.chain.now job.entry.other.now) (darkening job.entry.last))) }
+    ensures after { OnOk result (P.state plant.new ≡ after_job (P.state plant.old) job.entry.plan.now job.entry.chain.now job.entry.other.now job.entry.last) }
+    ensures kept { OnOk result (P.kept plant.new ≡ P.kept plant.old) }
 {
     let lit = light_all(heap, plant, job.plan)?;
     let chain = number(change_over(plant, job.chain));

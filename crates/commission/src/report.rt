@@ -35,7 +35,7 @@ struct Planned {
 
 // The lightpath that carries a session: from the group of its source to that of its destination.
 fn path_of<L: Layout>(layout: &L, session: Planned) -> Lightpath
-    ensures { result ≡ record { wavelength = session.wavelength; source = (network layout.now).group session.source; destination = (network layout.now).group session.destination } }
+    ensures { result ≡ record { wavelength = session.wavelength; source = (L.network layout.now).group session.source; destination = (L.network layout.now).group session.destination } }
 {
     Lightpath {
         wavelength: session.wavelength,

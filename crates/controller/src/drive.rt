@@ -11,8 +11,8 @@ use plant::slip::{Lightpath, retire, take_down};
 
 /// Puts the orders of an admission to the plant, up to the first that it refuses.
 pub(crate) fn change<P: Plant>(plant: &mut P, change: Change) -> Result<(), PlantRefusal>
-    ensures after { state plant.new ≡ until_refused (state plant.old) (changes change) }
-    ensures kept { kept plant.new ≡ kept plant.old }
+    ensures after { P.state plant.new ≡ until_refused (P.state plant.old) (changes change) }
+    ensures kept { P.kept plant.new ≡ P.kept plant.old }
 {
     let moves = change.moves as usize;
     change_over(plant, &change.chain[0..moves])?;
@@ -21,8 +21,8 @@ pub(crate) fn change<P: Plant>(plant: &mut P, change: Change) -> Result<(), Plan
 
 /// Takes a lightpath down for good.
 pub(crate) fn darken<P: Plant>(plant: &mut P, path: Lightpath) -> Result<(), PlantRefusal>
-    ensures after { state plant.new ≡ until_refused (state plant.old) (darkens path) }
-    ensures kept { kept plant.new ≡ kept plant.old }
+    ensures after { P.state plant.new ≡ until_refused (P.state plant.old) (darkens path) }
+    ensures kept { P.kept plant.new ≡ P.kept plant.old }
 {
     let slip = take_down(plant, path.wavelength, path.source, path.destination)?;
     let _ = retire(slip);

@@ -8,7 +8,7 @@ use plant::Plant;
 impl<L: Layout + Drop, P: Plant + Drop> Controller<L, P> {
     /// The source group that group `b` hears on wavelength `w`, or none.
     pub fn heard(&self, w: u8, b: u8) -> Option<u8>
-        ensures { result ≡ (state self.now.plant).hears w b }
+        ensures { result ≡ (P.state self.now.plant).hears w b }
     {
         self.plant.heard(w, b)
     }

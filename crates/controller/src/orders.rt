@@ -9,9 +9,9 @@ use reckoning::order::{Kind, Order};
 
 /// Puts the order to a plant, to light or to darken, and answers as the plant does.
 pub fn carry_out<P: Plant>(order: Order, plant: &mut P) -> Result<(), PlantRefusal>
-    ensures answer { result ≡ answer_to (state plant.old) (put order) }
-    ensures after { state plant.new ≡ after (state plant.old) (put order) }
-    ensures kept { kept plant.new ≡ kept plant.old }
+    ensures answer { result ≡ answer_to (P.state plant.old) (put order) }
+    ensures after { P.state plant.new ≡ after (P.state plant.old) (put order) }
+    ensures kept { P.kept plant.new ≡ P.kept plant.old }
 {
     match order.kind {
         Kind::Darken => plant.darken(order.wavelength, order.source, order.destination),

@@ -17,12 +17,12 @@ loop-i-preserved c =
     let h : i < length rows = omega arith in (
       λ a l.
           c.mark.ensures a l
-          ∙ (ap (λ (x : ℕ). marked x s.wavelength a (get_or c.loop-i.outward a 0)) c.group-of.ensures
+          ∙ (ap (λ (x : ℕ). marked x s.wavelength a (get_or c.loop-i.outward a 0)) c.group_of.ensures
           ∙ (ap (marked (L.group s.source) s.wavelength a) (c.loop-i.invariant.0 a l)
           ∙ (sym (out_more L s (standing rows i) a) ∙ ap (λ (t : List Session). out_mask L t a) (sym (standing_more rows i nobody h))))),
       λ b l.
           c.mark-in-loop-i.ensures b l
-          ∙ (ap (λ (x : ℕ). marked x s.wavelength b (get_or c.loop-i.inward b 0)) c.group-of-in-loop-i.ensures
+          ∙ (ap (λ (x : ℕ). marked x s.wavelength b (get_or c.loop-i.inward b 0)) c.group_of-in-loop-i.ensures
           ∙ (ap (marked (L.group s.destination) s.wavelength b) (c.loop-i.invariant.1 b l)
           ∙ (sym (into_more L s (standing rows i) b) ∙ ap (λ (t : List Session). into_mask L t b) (sym (standing_more rows i nobody h))))),
     )

@@ -7,7 +7,7 @@ use Rattle.commission.proofs.job.light_all.Goals as goal
 pub loop-path-preserved : goal.loop-path-preserved
 loop-path-preserved g c =
     let h : c.loop-path.path-index < length c.args.plan.now = omega arith in
-    let items = c.push.ensures.items ∙ cond-true _ _ _ (ap is_ok c.in-ok-push.was) in
+    let items = c.push.ensures.items ∙ cond-true _ _ _ (ap is_ok c.in_ok-push.was) in
     let answer = c.number.ensures ∙ ap answer_number c.light-answer.ensures.answer in (
       told_more _ _ c.args.plan.now c.loop-path.path-index _ _ _ (g.P.Plant.state c.loop-path.plant) h _ _ items answer c.light-answer.ensures.after c.loop-path.invariant.0,
       lit_more _ _ c.args.plan.now c.loop-path.path-index _ (vec_items c.loop-path.answers) [] _ h c.light-answer.ensures.after c.loop-path.invariant.1,

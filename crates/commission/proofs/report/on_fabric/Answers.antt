@@ -10,7 +10,7 @@ returns g c =
     let new = c.new-fabric.result in
     let end = c.work.new.plant in
     let job = c.args.job in
-    let promised = c.in-ok-answers.ensures in
+    let promised = c.in_ok-answers.ensures in
     let lent : end.registers.ghost_name ≡ new.registers.ghost_name = ap (λ x. x.0) promised.kept in
     λ _. holds c.args.waves c.args.groups c.args.registers.now _ (after_job_lem _ job.plan.now job.chain.now job.other.now job.last) new.waves new.groups end.waves end.groups new.registers.now end.registers.now
     c.new-fabric.ensures.counts.0 c.new-fabric.ensures.counts.1 c.new-fabric.ensures.bytes

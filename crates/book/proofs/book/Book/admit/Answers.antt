@@ -17,43 +17,43 @@ use Rattle.book.proofs.Preparing.{accepted, admit_room}
 use Rattle.book.proofs.Releasing.{refused_booked}
 use Rattle.book.proofs.book.Book.admit.Goals as goal
 
-pub sessions-at-moving-requires : goal.sessions-at-moving-requires
-sessions-at-moving-requires c =
+pub sessions_at-moving-requires : goal.sessions_at-moving-requires
+sessions_at-moving-requires c =
     let b = c.args.self.now in
     let L = parts_in b in
     let ss = standing_in b in
     let k = sound_from L ss b.sound in
     let room : Room = record { orders = length c.args.orders.now.places.now; rows = 0 } in
-    let r = c.in-ok-course.course in
+    let r = c.in_ok-course.course in
     let new = c.prepare.new.walk in
-    let m = subst (λ (n : ℕ). Prepared L (record { orders = n; rows = 0 }) ss c.args.walk.now c.args.number c.args.source c.args.destination c.args.limit new (Ok r)) c.room.ensures c.in-ok-course.ensures in
+    let m = subst (λ (n : ℕ). Prepared L (record { orders = n; rows = 0 }) ss c.args.walk.now c.args.number c.args.source c.args.destination c.args.limit new (Ok r)) c.room.ensures c.in_ok-course.ensures in
     omega (arith, part_long L b.setting.grouped b.setting.small.1 b.setting.small.2 room ss k c.args.walk.now c.args.number c.args.source c.args.destination c.args.limit m.0 new r m.1, moves_few L b.setting.grouped b.setting.small.1 b.setting.small.2 room ss k c.args.walk.now c.args.number c.args.source c.args.destination c.args.limit m.0 new r m.1, b.setting.small)
 
-pub slice-bounds-carry-out-end : goal.slice-bounds-carry-out-end
-slice-bounds-carry-out-end c =
+pub slice_bounds-carry_out-end : goal.slice_bounds-carry_out-end
+slice_bounds-carry_out-end c =
     let b = c.args.self.now in
     let L = parts_in b in
     let ss = standing_in b in
     let k = sound_from L ss b.sound in
     let room : Room = record { orders = length c.args.orders.now.places.now; rows = 0 } in
-    let r = c.in-ok-course.course in
+    let r = c.in_ok-course.course in
     let new = c.prepare.new.walk in
-    let m = subst (λ (n : ℕ). Prepared L (record { orders = n; rows = 0 }) ss c.args.walk.now c.args.number c.args.source c.args.destination c.args.limit new (Ok r)) c.room.ensures c.in-ok-course.ensures in
+    let m = subst (λ (n : ℕ). Prepared L (record { orders = n; rows = 0 }) ss c.args.walk.now c.args.number c.args.source c.args.destination c.args.limit new (Ok r)) c.room.ensures c.in_ok-course.ensures in
     let l : r.moves ≤ 32 = omega (arith, moves_few L b.setting.grouped b.setting.small.1 b.setting.small.2 room ss k c.args.walk.now c.args.number c.args.source c.args.destination c.args.limit m.0 new r m.1, b.setting.small) in
     search rules
 
-pub carry-out-requires : goal.carry-out-requires
-carry-out-requires c =
+pub carry_out-requires : goal.carry_out-requires
+carry_out-requires c =
     let b = c.args.self.now in
     let L = parts_in b in
     let ss = standing_in b in
     let k = sound_from L ss b.sound in
     let room : Room = record { orders = length c.args.orders.now.places.now; rows = 0 } in
-    let r = c.in-ok-course.course in
+    let r = c.in_ok-course.course in
     let new = c.prepare.new.walk in
-    let m = subst (λ (n : ℕ). Prepared L (record { orders = n; rows = 0 }) ss c.args.walk.now c.args.number c.args.source c.args.destination c.args.limit new (Ok r)) c.room.ensures c.in-ok-course.ensures in
-    let chain = take (r.moves - 0) c.sessions-at-moving.result in
-    let is : chain ≡ (planned L ss c.args.source c.args.destination).moving = ap (λ (j : ℕ). take j c.sessions-at-moving.result) (sub-zero r.moves) ∙ chain_is L b.setting.grouped b.setting.small.1 b.setting.small.2 room ss k c.args.walk.now c.args.number c.args.source c.args.destination c.args.limit m.0 new r m.1 c.sessions-at-moving.result _ refl c.sessions-at-moving.ensures in
+    let m = subst (λ (n : ℕ). Prepared L (record { orders = n; rows = 0 }) ss c.args.walk.now c.args.number c.args.source c.args.destination c.args.limit new (Ok r)) c.room.ensures c.in_ok-course.ensures in
+    let chain = take (r.moves - 0) c.sessions_at-moving.result in
+    let is : chain ≡ (planned L ss c.args.source c.args.destination).moving = ap (λ (j : ℕ). take j c.sessions_at-moving.result) (sub-zero r.moves) ∙ chain_is L b.setting.grouped b.setting.small.1 b.setting.small.2 room ss k c.args.walk.now c.args.number c.args.source c.args.destination c.args.limit m.0 new r m.1 c.sessions_at-moving.result _ refl c.sessions_at-moving.ensures in
     let l : length chain ≡ r.moves = ap length is ∙ sym m.1.moves in
     let many = moves_few L b.setting.grouped b.setting.small.1 b.setting.small.2 room ss k c.args.walk.now c.args.number c.args.source c.args.destination c.args.limit m.0 new r m.1 in
     let count : length ss ≡ b.count = length-reverse (take b.count b.rows) ∙ length-take-le b.count b.rows (omega (arith, b.few)) in
@@ -64,19 +64,19 @@ carry-out-requires c =
       sound = sound_is L b.setting.grouped b.setting.small.1 b.setting.small.2 room ss k c.args.walk.now c.args.number c.args.source c.args.destination c.args.limit m.0 new r m.1 chain is;
     }
 
-pub returns-in-err-course : goal.returns-in-err-course
-returns-in-err-course c =
+pub returns-in_err-course : goal.returns-in_err-course
+returns-in_err-course c =
     let b = c.args.self.now in
     let L = parts_in b in
     let ss = standing_in b in
     let o = page_of c.args.orders.now in
-    let x = c.in-err-course.field-0.0 in
+    let x = c.in_err-course.field-0.0 in
     let new = c.prepare.new.walk in
-    let m = subst (λ (n : ℕ). Prepared L (record { orders = n; rows = 0 }) ss c.args.walk.now c.args.number c.args.source c.args.destination c.args.limit new (Err x)) c.room.ensures c.in-err-course.ensures in
+    let m = subst (λ (n : ℕ). Prepared L (record { orders = n; rows = 0 }) ss c.args.walk.now c.args.number c.args.source c.args.destination c.args.limit new (Err x)) c.room.ensures c.in_err-course.ensures in
     let y = admit L (record { orders = length c.args.orders.now.places.now; rows = 0 }) ss c.args.walk.now c.args.number c.args.source c.args.destination c.args.limit in
     record {
       same = refl;
-      booked = subst (λ (r : Result Change CallRefusal). Booked y (admit_answer r) (told changes r) b b o o) (handed_err c.from-residual.result x c.from-residual.ensures.1) (refused_booked y b new o x m);
+      booked = subst (λ (r : Result Change CallRefusal). Booked y (admit_answer r) (told changes r) b b o o) (handed_err c.from_residual.result x c.from_residual.ensures.1) (refused_booked y b new o x m);
       walk = sym (ap (λ (z : Reply). z.walk) m);
     }
 
@@ -87,13 +87,13 @@ returns c =
     let ss = standing_in b in
     let k = sound_from L ss b.sound in
     let room : Room = record { orders = length c.args.orders.now.places.now; rows = 0 } in
-    let r = c.in-ok-course.course in
+    let r = c.in_ok-course.course in
     let new = c.prepare.new.walk in
-    let m = subst (λ (n : ℕ). Prepared L (record { orders = n; rows = 0 }) ss c.args.walk.now c.args.number c.args.source c.args.destination c.args.limit new (Ok r)) c.room.ensures c.in-ok-course.ensures in
-    let chain = take (r.moves - 0) c.sessions-at-moving.result in
-    let is : chain ≡ (planned L ss c.args.source c.args.destination).moving = ap (λ (j : ℕ). take j c.sessions-at-moving.result) (sub-zero r.moves) ∙ chain_is L b.setting.grouped b.setting.small.1 b.setting.small.2 room ss k c.args.walk.now c.args.number c.args.source c.args.destination c.args.limit m.0 new r m.1 c.sessions-at-moving.result _ refl c.sessions-at-moving.ensures in
+    let m = subst (λ (n : ℕ). Prepared L (record { orders = n; rows = 0 }) ss c.args.walk.now c.args.number c.args.source c.args.destination c.args.limit new (Ok r)) c.room.ensures c.in_ok-course.ensures in
+    let chain = take (r.moves - 0) c.sessions_at-moving.result in
+    let is : chain ≡ (planned L ss c.args.source c.args.destination).moving = ap (λ (j : ℕ). take j c.sessions_at-moving.result) (sub-zero r.moves) ∙ chain_is L b.setting.grouped b.setting.small.1 b.setting.small.2 room ss k c.args.walk.now c.args.number c.args.source c.args.destination c.args.limit m.0 new r m.1 c.sessions_at-moving.result _ refl c.sessions_at-moving.ensures in
     record {
-      same = c.carry-out.ensures.same;
-      booked = accepted_booked room c.args.walk.now c.args.number c.args.source c.args.destination c.args.limit b c.carry-out.new.self (page_of c.args.orders.now) (page_of c.carry-out.new.orders) c.carry-out.result m.0 chain r.p r.q r.gives is m.1.p m.1.q m.1.gives c.carry-out.ensures.carried;
+      same = c.carry_out.ensures.same;
+      booked = accepted_booked room c.args.walk.now c.args.number c.args.source c.args.destination c.args.limit b c.carry_out.new.self (page_of c.args.orders.now) (page_of c.carry_out.new.orders) c.carry_out.result m.0 chain r.p r.q r.gives is m.1.p m.1.q m.1.gives c.carry_out.ensures.carried;
       walk = m.1.walk ∙ sym (ap (λ (y : Reply). y.walk) (accepted L room ss c.args.walk.now c.args.number c.args.source c.args.destination c.args.limit m.0));
     }

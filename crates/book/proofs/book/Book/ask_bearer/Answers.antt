@@ -11,9 +11,9 @@ pub returns-in-Some : goal.returns-in-Some
 returns-in-Some c =
     let b = c.args.self.now in
     let h = sym c.in-Some.ensures in
-    record { answer = found_asked (numbered (parts_in b) c.args.number) (bears c.args.number) (standing_in b) c.in-Some.s (omega arith) c.in-ok-ask-numbered.ensures h; found = h }
+    record { answer = found_asked (numbered (parts_in b) c.args.number) (bears c.args.number) (standing_in b) c.in-Some.s (omega arith) c.in_ok-ask_numbered.ensures h; found = h }
 
 pub returns-in-None : goal.returns-in-None
 returns-in-None c =
     let b = c.args.self.now in
-    record { answer = missed_asked (numbered (parts_in b) c.args.number) (bears c.args.number) (standing_in b) (omega arith) c.in-ok-ask-numbered.ensures (sym c.in-None.ensures); found = tt }
+    record { answer = missed_asked (numbered (parts_in b) c.args.number) (bears c.args.number) (standing_in b) (omega arith) c.in_ok-ask_numbered.ensures (sym c.in-None.ensures); found = tt }

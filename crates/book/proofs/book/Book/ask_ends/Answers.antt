@@ -5,7 +5,7 @@ use Rattle.book.specs.Books.{parts_in, standing_in}
 use Rattle.book.proofs.Asking.{handed_on, at_first}
 use Rattle.book.proofs.book.Book.ask_ends.Goals as goal
 
-pub returns-in-err-ask-numbered : goal.returns-in-err-ask-numbered
-returns-in-err-ask-numbered c =
-    let e = c.in-err-ask-numbered.field-0.0 in
-    handed_on c.from-residual.result e c.from-residual.ensures.1 ∙ at_first e (numbered (parts_in c.args.self.now) c.args.number) (drop 3 (ends (parts_in c.args.self.now) (standing_in c.args.self.now) c.args.number c.args.source c.args.destination)) c.in-err-ask-numbered.ensures
+pub returns-in_err-ask_numbered : goal.returns-in_err-ask_numbered
+returns-in_err-ask_numbered c =
+    let e = c.in_err-ask_numbered.field-0.0 in
+    handed_on c.from_residual.result e c.from_residual.ensures.1 ∙ at_first e (numbered (parts_in c.args.self.now) c.args.number) (drop 3 (ends (parts_in c.args.self.now) (standing_in c.args.self.now) c.args.number c.args.source c.args.destination)) c.in_err-ask_numbered.ensures

@@ -19,16 +19,16 @@ returns c =
     omega (arith, c.requires.room, length-append change (order g Light c.args.new ∷ []), chain_length g c.args.p c.args.q (reverse es), length-reverse es)
     in
     record {
-      same = c.write-orders.ensures.same;
+      same = c.write_orders.ensures.same;
       carried = record {
-        room = (page_long xs (page_of c.args.orders.now) (page_of c.write-orders.new.orders) c.write-orders.ensures.page fit).1;
+        room = (page_long xs (page_of c.args.orders.now) (page_of c.write_orders.new.orders) c.write_orders.ensures.page fit).1;
         setting = c.enter.ensures.setting;
         standing = c.enter.ensures.stands;
-        orders = c.write-orders.ensures.page;
+        orders = c.write_orders.ensures.page;
         moves = refl;
         chain_changes = c.retunings.ensures;
         wavelength = refl;
-        source = c.group-of.ensures;
-        destination = c.group-of-2.ensures;
+        source = c.group_of.ensures;
+        destination = c.group_of-2.ensures;
       };
     }

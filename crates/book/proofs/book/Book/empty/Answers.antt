@@ -5,8 +5,8 @@ use Rattle.book.specs.Standing.{parts_of}
 use Rattle.book.proofs.Lit.{out_none, into_none, zeros}
 use Rattle.book.proofs.book.Book.empty.Goals as goal
 
-pub invariant-of-result : goal.invariant-of-result
+pub invariant_of-result : goal.invariant_of-result
 unfolding sound_test
-invariant-of-result c =
+invariant_of-result c =
     let L = parts_of c.args.setting in
-    ((omega arith, refl), (refl, (λ a l. zeros 32 a ∙ sym (out_none L a), (λ b l. zeros 32 b ∙ sym (into_none L b), tt))))
+    record { few = (omega arith, refl); sound = refl; leaving = λ a l. zeros 32 a ∙ sym (out_none L a); entering = λ b l. zeros 32 b ∙ sym (into_none L b) }

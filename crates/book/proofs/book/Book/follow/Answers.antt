@@ -25,10 +25,10 @@ loop-i-preserved c =
     let w = subst (λ (o : Option Session). Walking (parts_in b).group (next (parts_in b).group (standing_in b) c.args.p c.args.q) (2 * b.setting.span) c.args.at c.args.start c.args.walk.now c.loop-i.walk c.loop-i.i o) c.in-Some.is c.loop-i.invariant in
     walking_more _ _ _ _ _ _ c.requires _ _ _ w c.loop-i-test.true _ c.code.ensures _ c.follower-next.ensures
 
-pub returns-in-default : goal.returns-in-default
+pub returns-in_default : goal.returns-in_default
 unfolding chained
-returns-in-default c =
-    let h = walking_all _ _ _ _ _ _ c.requires _ _ _ c.loop-i.invariant (chain_over _ _ _ c.in-default.is) in
+returns-in_default c =
+    let h = walking_all _ _ _ _ _ _ c.requires _ _ _ c.loop-i.invariant (chain_over _ _ _ c.in_default.is) in
     record { count = h.0; written = h.1 }
 
 pub returns : goal.returns

@@ -6,4 +6,4 @@ use Rattle.book.proofs.book.Book.follower.Goals as goal
 pub returns-then-s-p : goal.returns-then-s-p
 returns-then-s-p c =
     let b = c.args.self.now in
-    next_back (parts_in b).group (standing_in b) c.args.p c.args.q c.group-of-then-s-p.result c.args.s c.look-up-then-s-p.result c.if-s-q.false c.if-s-p.true c.group-of-then-s-p.ensures c.look-up-then-s-p.ensures
+    next_back (parts_in b).group (standing_in b) c.args.p c.args.q c.group_of-then-s-p.result c.args.s c.look_up-then-s-p.result c.if-s-q.false c.if-s-p.true c.group_of-then-s-p.ensures c.look_up-then-s-p.ensures

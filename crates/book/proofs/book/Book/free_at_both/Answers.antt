@@ -9,5 +9,5 @@ pub returns : goal.returns
 returns c =
     let b = c.args.self.now in
     c.min.ensures
-    ∙ (ap (min b.setting.waves) c.trailing-ones.ensures
+    ∙ (ap (min b.setting.waves) c.trailing_ones.ensures
     ∙ both_lowest (parts_in b) (standing_in b) (sound_from (parts_in b) (standing_in b) b.sound) b.setting.small.1 c.args.a c.args.b _ _ (b.leaving c.args.a c.requires.0) (b.entering c.args.b c.requires.1))

@@ -7,4 +7,4 @@ use Rattle.book.proofs.Asking.{any_first}
 use Rattle.book.proofs.book.Book.is_borne.Goals as goal
 
 pub returns : goal.returns
-returns c = c.is-some.ensures ∙ (ap (λ (o : Option Session). is_some o) c.look-up.ensures ∙ any_first (bears c.args.number) (standing_in c.args.self.now))
+returns c = c.is_some.ensures ∙ (ap (λ (o : Option Session). is_some o) c.look_up.ensures ∙ any_first (bears c.args.number) (standing_in c.args.self.now))

@@ -16,41 +16,41 @@ use Rattle.book.proofs.Listing.{page_long}
 use Rattle.book.proofs.Listed.{not_fit, no_room, list_accepted}
 use Rattle.book.proofs.book.Book.list.Goals as goal
 
-pub returns-in-err-ask-fit : goal.returns-in-err-ask-fit
-returns-in-err-ask-fit c =
+pub returns-in_err-ask_fit : goal.returns-in_err-ask_fit
+returns-in_err-ask_fit c =
     let b = c.args.self.now in
     let L = parts_in b in
     let ss = standing_in b in
     let s = page_of c.args.rows.now in
     let room : Room = record { orders = 0; rows = length c.args.rows.now.places.now } in
-    let x = c.in-err-ask-fit.field-0.0 in
+    let x = c.in_err-ask_fit.field-0.0 in
     record {
       same = refl;
       room = refl;
-      answer = λ walk. subst (λ (r : Result ℕ CallRefusal). list_answer r ≡ (list L room ss walk).answer) (handed_err c.from-residual.result x c.from-residual.ensures.1) (sym (ap (λ (z : Reply). z.answer) (not_fit L room ss walk x c.in-err-ask-fit.ensures)));
-      rows = λ walk. sym (ap (λ (z : Reply). rewritten z.rows s) (not_fit L room ss walk x c.in-err-ask-fit.ensures));
+      answer = λ walk. subst (λ (r : Result ℕ CallRefusal). list_answer r ≡ (list L room ss walk).answer) (handed_err c.from_residual.result x c.from_residual.ensures.1) (sym (ap (λ (z : Reply). z.answer) (not_fit L room ss walk x c.in_err-ask_fit.ensures)));
+      rows = λ walk. sym (ap (λ (z : Reply). rewritten z.rows s) (not_fit L room ss walk x c.in_err-ask_fit.ensures));
     }
 
-pub returns-in-err-ask : goal.returns-in-err-ask
-returns-in-err-ask c =
+pub returns-in_err-ask : goal.returns-in_err-ask
+returns-in_err-ask c =
     let b = c.args.self.now in
     let L = parts_in b in
     let ss = standing_in b in
     let s = page_of c.args.rows.now in
     let room : Room = record { orders = 0; rows = length c.args.rows.now.places.now } in
-    let number = refused_ask (leb c.standing-standing.result c.room.result) c.in-err-ask.field-0.0 RowRoom c.in-err-ask.ensures ∙ ap₂ (λ (m n : ℕ). cond (leb m n) 0 18) c.standing-standing.ensures c.room.ensures in
-    let x = c.in-err-ask.field-0.0 in
+    let number = refused_ask (leb c.standing-standing.result c.room.result) c.in_err-ask.field-0.0 RowRoom c.in_err-ask.ensures ∙ ap₂ (λ (m n : ℕ). cond (leb m n) 0 18) c.standing-standing.ensures c.room.ensures in
+    let x = c.in_err-ask.field-0.0 in
     record {
       same = refl;
       room = refl;
-      answer = λ walk. subst (λ (r : Result ℕ CallRefusal). list_answer r ≡ (list L room ss walk).answer) (handed_err c.from-residual-in-err-ask.result x c.from-residual-in-err-ask.ensures.1) (sym (ap (λ (z : Reply). z.answer) (no_room L room ss walk c.in-ok-ask-fit.ensures x number)));
-      rows = λ walk. sym (ap (λ (z : Reply). rewritten z.rows s) (no_room L room ss walk c.in-ok-ask-fit.ensures x number));
+      answer = λ walk. subst (λ (r : Result ℕ CallRefusal). list_answer r ≡ (list L room ss walk).answer) (handed_err c.from_residual-in_err-ask.result x c.from_residual-in_err-ask.ensures.1) (sym (ap (λ (z : Reply). z.answer) (no_room L room ss walk c.in_ok-ask_fit.ensures x number)));
+      rows = λ walk. sym (ap (λ (z : Reply). rewritten z.rows s) (no_room L room ss walk c.in_ok-ask_fit.ensures x number));
     }
 
-pub write-rows-requires : goal.write-rows-requires
-write-rows-requires c =
+pub write_rows-requires : goal.write_rows-requires
+write_rows-requires c =
     let b = c.args.self.now in
-    omega (arith, passed_ask c.standing-standing.result c.room.result RowRoom c.in-ok-ask.ensures, c.standing-standing.ensures, c.room.ensures, rows_length (parts_in b) (standing_in b) (sound_from (parts_in b) (standing_in b) b.sound))
+    omega (arith, passed_ask c.standing-standing.result c.room.result RowRoom c.in_ok-ask.ensures, c.standing-standing.ensures, c.room.ensures, rows_length (parts_in b) (standing_in b) (sound_from (parts_in b) (standing_in b) b.sound))
 
 pub returns : goal.returns
 returns c =
@@ -59,10 +59,10 @@ returns c =
     let ss = standing_in b in
     let s = page_of c.args.rows.now in
     let room : Room = record { orders = 0; rows = length c.args.rows.now.places.now } in
-    let l : length ss ≤ room.rows = omega (arith, passed_ask c.standing-standing.result c.room.result RowRoom c.in-ok-ask.ensures, c.standing-standing.ensures, c.room.ensures) in
+    let l : length ss ≤ room.rows = omega (arith, passed_ask c.standing-standing.result c.room.result RowRoom c.in_ok-ask.ensures, c.standing-standing.ensures, c.room.ensures) in
     record {
-      same = c.write-rows.ensures.same;
-      room = (page_long (rows_of L ss) s (page_of c.write-rows.new.rows) c.write-rows.ensures.page (omega (arith, l, rows_length L ss (sound_from L ss b.sound)))).1;
-      answer = λ walk. ap listed c.standing-standing.ensures ∙ sym (ap (λ (z : Reply). z.answer) (list_accepted L room ss walk c.in-ok-ask-fit.ensures l));
-      rows = λ walk. c.write-rows.ensures.page ∙ sym (ap (λ (z : Reply). rewritten z.rows s) (list_accepted L room ss walk c.in-ok-ask-fit.ensures l));
+      same = c.write_rows.ensures.same;
+      room = (page_long (rows_of L ss) s (page_of c.write_rows.new.rows) c.write_rows.ensures.page (omega (arith, l, rows_length L ss (sound_from L ss b.sound)))).1;
+      answer = λ walk. ap listed c.standing-standing.ensures ∙ sym (ap (λ (z : Reply). z.answer) (list_accepted L room ss walk c.in_ok-ask_fit.ensures l));
+      rows = λ walk. c.write_rows.ensures.page ∙ sym (ap (λ (z : Reply). rewritten z.rows s) (list_accepted L room ss walk c.in_ok-ask_fit.ensures l));
     }

@@ -10,33 +10,33 @@ use Rattle.book.proofs.Asking.{handed_err}
 use Rattle.book.proofs.Preparing.{asked, in_sites, opening, few_moves, many_moves, refused_before, at_groups}
 use Rattle.book.proofs.book.Book.prepare.Goals as goal
 
-pub returns-in-err-ask-admit : goal.returns-in-err-ask-admit
-returns-in-err-ask-admit c =
+pub returns-in_err-ask_admit : goal.returns-in_err-ask_admit
+returns-in_err-ask_admit c =
     let b = c.args.self.now in
     let L = parts_in b in
     let ss = standing_in b in
     let room : Room = record { orders = c.args.places; rows = 0 } in
-    let x = c.in-err-ask-admit.field-0.0 in
+    let x = c.in_err-ask_admit.field-0.0 in
     subst (λ (r : Result Course CallRefusal). Prepared L room ss c.args.walk.now c.args.number c.args.source c.args.destination c.args.limit c.args.walk.now r)
-    (handed_err c.from-residual.result x c.from-residual.ensures.1)
-    (refused_before L room ss c.args.walk.now c.args.number c.args.source c.args.destination c.args.limit x c.in-err-ask-admit.ensures)
+    (handed_err c.from_residual.result x c.from_residual.ensures.1)
+    (refused_before L room ss c.args.walk.now c.args.number c.args.source c.args.destination c.args.limit x c.in_err-ask_admit.ensures)
 
-pub overflow-cast-source : goal.overflow-cast-source
-overflow-cast-source c =
+pub overflow_cast-source : goal.overflow_cast-source
+overflow_cast-source c =
     let b = c.args.self.now in
     let L = parts_in b in
     let ss = standing_in b in
     let room : Room = record { orders = c.args.places; rows = 0 } in
-    let e : verdict (asked L room ss c.args.walk.now c.args.number c.args.source c.args.destination c.args.limit) ≡ 0 = sym c.in-ok-ask-admit.ensures in
+    let e : verdict (asked L room ss c.args.walk.now c.args.number c.args.source c.args.destination c.args.limit) ≡ 0 = sym c.in_ok-ask_admit.ensures in
     omega (arith, (in_sites L room ss c.args.walk.now c.args.number c.args.source c.args.destination c.args.limit e).0, b.setting.small)
 
-pub overflow-cast-destination : goal.overflow-cast-destination
-overflow-cast-destination c =
+pub overflow_cast-destination : goal.overflow_cast-destination
+overflow_cast-destination c =
     let b = c.args.self.now in
     let L = parts_in b in
     let ss = standing_in b in
     let room : Room = record { orders = c.args.places; rows = 0 } in
-    let e : verdict (asked L room ss c.args.walk.now c.args.number c.args.source c.args.destination c.args.limit) ≡ 0 = sym c.in-ok-ask-admit.ensures in
+    let e : verdict (asked L room ss c.args.walk.now c.args.number c.args.source c.args.destination c.args.limit) ≡ 0 = sym c.in_ok-ask_admit.ensures in
     omega (arith, (in_sites L room ss c.args.walk.now c.args.number c.args.source c.args.destination c.args.limit e).1, b.setting.small)
 
 pub choose-course-requires : goal.choose-course-requires
@@ -45,9 +45,9 @@ choose-course-requires c =
     let L = parts_in b in
     let ss = standing_in b in
     let room : Room = record { orders = c.args.places; rows = 0 } in
-    let e : verdict (asked L room ss c.args.walk.now c.args.number c.args.source c.args.destination c.args.limit) ≡ 0 = sym c.in-ok-ask-admit.ensures in
-    subst (λ (x : ℕ). Open L ss x c.group-of-b.result c.args.walk.now) (sym c.group-of-a.ensures)
-    (subst (λ (x : ℕ). Open L ss (L.group c.args.source) x c.args.walk.now) (sym c.group-of-b.ensures) (opening L room ss c.args.walk.now c.args.number c.args.source c.args.destination c.args.limit e b.setting.grouped))
+    let e : verdict (asked L room ss c.args.walk.now c.args.number c.args.source c.args.destination c.args.limit) ≡ 0 = sym c.in_ok-ask_admit.ensures in
+    subst (λ (x : ℕ). Open L ss x c.group_of-b.result c.args.walk.now) (sym c.group_of-a.ensures)
+    (subst (λ (x : ℕ). Open L ss (L.group c.args.source) x c.args.walk.now) (sym c.group_of-b.ensures) (opening L room ss c.args.walk.now c.args.number c.args.source c.args.destination c.args.limit e b.setting.grouped))
 
 pub returns-then-course-limit : goal.returns-then-course-limit
 returns-then-course-limit c =
@@ -55,8 +55,8 @@ returns-then-course-limit c =
     let L = parts_in b in
     let ss = standing_in b in
     let room : Room = record { orders = c.args.places; rows = 0 } in
-    let e : verdict (asked L room ss c.args.walk.now c.args.number c.args.source c.args.destination c.args.limit) ≡ 0 = sym c.in-ok-ask-admit.ensures in
-    let h = at_groups L ss c.args.source c.args.destination c.group-of-a.result c.group-of-b.result c.args.walk.now c.choose-course.new.walk c.choose-course.result c.group-of-a.ensures c.group-of-b.ensures c.choose-course.ensures in
+    let e : verdict (asked L room ss c.args.walk.now c.args.number c.args.source c.args.destination c.args.limit) ≡ 0 = sym c.in_ok-ask_admit.ensures in
+    let h = at_groups L ss c.args.source c.args.destination c.group_of-a.result c.group_of-b.result c.args.walk.now c.choose-course.new.walk c.choose-course.result c.group_of-a.ensures c.group_of-b.ensures c.choose-course.ensures in
     many_moves L room ss c.args.walk.now c.args.number c.args.source c.args.destination c.args.limit e c.choose-course.new.walk h.walk (omega (arith, h.moves, c.if-course-limit.true))
 
 pub returns : goal.returns
@@ -65,6 +65,6 @@ returns c =
     let L = parts_in b in
     let ss = standing_in b in
     let room : Room = record { orders = c.args.places; rows = 0 } in
-    let e : verdict (asked L room ss c.args.walk.now c.args.number c.args.source c.args.destination c.args.limit) ≡ 0 = sym c.in-ok-ask-admit.ensures in
-    let h = at_groups L ss c.args.source c.args.destination c.group-of-a.result c.group-of-b.result c.args.walk.now c.choose-course.new.walk c.choose-course.result c.group-of-a.ensures c.group-of-b.ensures c.choose-course.ensures in
+    let e : verdict (asked L room ss c.args.walk.now c.args.number c.args.source c.args.destination c.args.limit) ≡ 0 = sym c.in_ok-ask_admit.ensures in
+    let h = at_groups L ss c.args.source c.args.destination c.group_of-a.result c.group_of-b.result c.args.walk.now c.choose-course.new.walk c.choose-course.result c.group_of-a.ensures c.group_of-b.ensures c.choose-course.ensures in
     (few_moves L room ss c.args.walk.now c.args.number c.args.source c.args.destination c.args.limit e (omega (arith, h.moves, c.if-course-limit.false)), h)

@@ -11,55 +11,55 @@ use Rattle.book.proofs.Preparing.{at_groups}
 use Rattle.book.proofs.Quoting.{quote_sites, quote_opening, quote_refused, quote_accepted, quote_few}
 use Rattle.book.proofs.book.Book.quote.Goals as goal
 
-pub returns-in-err-ask-quote : goal.returns-in-err-ask-quote
-returns-in-err-ask-quote c =
+pub returns-in_err-ask_quote : goal.returns-in_err-ask_quote
+returns-in_err-ask_quote c =
     let b = c.args.self.now in
     let L = parts_in b in
     let ss = standing_in b in
-    let x = c.in-err-ask-quote.field-0.0 in
-    let y = quote_refused L ss c.args.walk.now c.args.number c.args.source c.args.destination x c.in-err-ask-quote.ensures in
+    let x = c.in_err-ask_quote.field-0.0 in
+    let y = quote_refused L ss c.args.walk.now c.args.number c.args.source c.args.destination x c.in_err-ask_quote.ensures in
     record {
-      answer = subst (λ (r : Result (ℕ × ℕ) CallRefusal). quote_answer r ≡ (quote L ss c.args.walk.now c.args.number c.args.source c.args.destination).answer) (handed_err c.from-residual.result x c.from-residual.ensures.1) (sym (ap (λ (z : Reply). z.answer) y));
+      answer = subst (λ (r : Result (ℕ × ℕ) CallRefusal). quote_answer r ≡ (quote L ss c.args.walk.now c.args.number c.args.source c.args.destination).answer) (handed_err c.from_residual.result x c.from_residual.ensures.1) (sym (ap (λ (z : Reply). z.answer) y));
       walk = sym (ap (λ (z : Reply). z.walk) y);
     }
 
-pub overflow-cast-source : goal.overflow-cast-source
-overflow-cast-source c =
+pub overflow_cast-source : goal.overflow_cast-source
+overflow_cast-source c =
     let b = c.args.self.now in
     let L = parts_in b in
     let ss = standing_in b in
-    omega (arith, (quote_sites L ss c.args.walk.now c.args.number c.args.source c.args.destination (sym c.in-ok-ask-quote.ensures)).0, b.setting.small)
+    omega (arith, (quote_sites L ss c.args.walk.now c.args.number c.args.source c.args.destination (sym c.in_ok-ask_quote.ensures)).0, b.setting.small)
 
-pub overflow-cast-destination : goal.overflow-cast-destination
-overflow-cast-destination c =
+pub overflow_cast-destination : goal.overflow_cast-destination
+overflow_cast-destination c =
     let b = c.args.self.now in
     let L = parts_in b in
     let ss = standing_in b in
-    omega (arith, (quote_sites L ss c.args.walk.now c.args.number c.args.source c.args.destination (sym c.in-ok-ask-quote.ensures)).1, b.setting.small)
+    omega (arith, (quote_sites L ss c.args.walk.now c.args.number c.args.source c.args.destination (sym c.in_ok-ask_quote.ensures)).1, b.setting.small)
 
 pub choose-course-requires : goal.choose-course-requires
 choose-course-requires c =
     let b = c.args.self.now in
     let L = parts_in b in
     let ss = standing_in b in
-    subst (λ (x : ℕ). Open L ss x c.group-of-b.result c.args.walk.now) (sym c.group-of-a.ensures)
-    (subst (λ (x : ℕ). Open L ss (L.group c.args.source) x c.args.walk.now) (sym c.group-of-b.ensures) (quote_opening L ss c.args.walk.now c.args.number c.args.source c.args.destination (sym c.in-ok-ask-quote.ensures) b.setting.grouped))
+    subst (λ (x : ℕ). Open L ss x c.group_of-b.result c.args.walk.now) (sym c.group_of-a.ensures)
+    (subst (λ (x : ℕ). Open L ss (L.group c.args.source) x c.args.walk.now) (sym c.group_of-b.ensures) (quote_opening L ss c.args.walk.now c.args.number c.args.source c.args.destination (sym c.in_ok-ask_quote.ensures) b.setting.grouped))
 
-pub overflow-cast-result : goal.overflow-cast-result
-overflow-cast-result c =
+pub overflow_cast-result : goal.overflow_cast-result
+overflow_cast-result c =
     let b = c.args.self.now in
     let L = parts_in b in
     let ss = standing_in b in
-    let h = at_groups L ss c.args.source c.args.destination c.group-of-a.result c.group-of-b.result c.args.walk.now c.choose-course.new.walk c.choose-course.result c.group-of-a.ensures c.group-of-b.ensures c.choose-course.ensures in
-    omega (arith, h.moves, quote_few L ss c.args.walk.now c.args.number c.args.source c.args.destination (sym c.in-ok-ask-quote.ensures) b.setting.grouped (sound_from L ss b.sound), b.setting.small)
+    let h = at_groups L ss c.args.source c.args.destination c.group_of-a.result c.group_of-b.result c.args.walk.now c.choose-course.new.walk c.choose-course.result c.group_of-a.ensures c.group_of-b.ensures c.choose-course.ensures in
+    omega (arith, h.moves, quote_few L ss c.args.walk.now c.args.number c.args.source c.args.destination (sym c.in_ok-ask_quote.ensures) b.setting.grouped (sound_from L ss b.sound), b.setting.small)
 
 pub returns : goal.returns
 returns c =
     let b = c.args.self.now in
     let L = parts_in b in
     let ss = standing_in b in
-    let h = at_groups L ss c.args.source c.args.destination c.group-of-a.result c.group-of-b.result c.args.walk.now c.choose-course.new.walk c.choose-course.result c.group-of-a.ensures c.group-of-b.ensures c.choose-course.ensures in
-    let y = quote_accepted L ss c.args.walk.now c.args.number c.args.source c.args.destination (sym c.in-ok-ask-quote.ensures) in
+    let h = at_groups L ss c.args.source c.args.destination c.group_of-a.result c.group_of-b.result c.args.walk.now c.choose-course.new.walk c.choose-course.result c.group_of-a.ensures c.group_of-b.ensures c.choose-course.ensures in
+    let y = quote_accepted L ss c.args.walk.now c.args.number c.args.source c.args.destination (sym c.in_ok-ask_quote.ensures) in
     record {
       answer = ap₂ quoted h.gives h.moves ∙ sym (ap (λ (z : Reply). z.answer) y);
       walk = h.walk ∙ sym (ap (λ (z : Reply). z.walk) y);

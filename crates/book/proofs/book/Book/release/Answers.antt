@@ -16,33 +16,33 @@ use Rattle.book.proofs.Ordering.{last_put}
 use Rattle.book.proofs.Releasing.{refused_booked, release_refused, not_borne, released_booked}
 use Rattle.book.proofs.book.Book.release.Goals as goal
 
-pub returns-in-err-s : goal.returns-in-err-s
-returns-in-err-s c =
+pub returns-in_err-s : goal.returns-in_err-s
+returns-in_err-s c =
     let b = c.args.self.now in
-    let x = c.in-err-s.field-0.0 in
+    let x = c.in_err-s.field-0.0 in
     let o = page_of c.args.orders.now in
     let room : Room = record { orders = length c.args.orders.now.places.now; rows = 0 } in
     record {
       same = refl;
       booked = λ walk.
           let y = release (parts_in b) room (standing_in b) walk c.args.number in
-          subst (λ (r : Result Lightpath CallRefusal). Booked y (release_answer r) (told darkens r) b b o o) (handed_err c.from-residual.result x c.from-residual.ensures.1)
-          (refused_booked y b walk o x (release_refused (parts_in b) room (standing_in b) walk c.args.number x (not_borne (parts_in b) room (standing_in b) walk c.args.number x c.in-err-s.ensures.answer)));
+          subst (λ (r : Result Lightpath CallRefusal). Booked y (release_answer r) (told darkens r) b b o o) (handed_err c.from_residual.result x c.from_residual.ensures.1)
+          (refused_booked y b walk o x (release_refused (parts_in b) room (standing_in b) walk c.args.number x (not_borne (parts_in b) room (standing_in b) walk c.args.number x c.in_err-s.ensures.answer)));
     }
 
 pub returns : goal.returns
 returns c =
     let b = c.args.self.now in
     let g = (parts_in b).group in
-    let s = c.in-ok-s.s in
+    let s = c.in_ok-s.s in
     let room : Room = record { orders = length c.args.orders.now.places.now; rows = 0 } in
-    let l : 1 ≤ room.orders = omega (arith, passed_ask 1 c.room.result OrderRoom c.in-ok-ask.ensures, c.room.ensures) in
+    let l : 1 ≤ room.orders = omega (arith, passed_ask 1 c.room.result OrderRoom c.in_ok-ask.ensures, c.room.ensures) in
     let o = c.order-order.result in
     record {
       same = c.put.ensures.same ∙ c.clear.ensures.same;
       booked = λ walk.
           released_booked room walk c.args.number b c.leave.new.self (page_of c.args.orders.now) (page_of c.put.new.self) s (record { wavelength = o.wavelength; source = o.source; destination = o.destination })
-          c.in-ok-s.ensures.answer l l c.in-ok-s.ensures.found c.leave.ensures.setting c.leave.ensures.stands
+          c.in_ok-s.ensures.answer l l c.in_ok-s.ensures.found c.leave.ensures.setting c.leave.ensures.stands
           (ap (λ (x : Order). record { wavelength = x.wavelength; source = x.source; destination = x.destination }) c.order-order.ensures)
           (last_put c.args.orders.now.places.now 0 [] (order g Darken s) o c.clear.new.self.count c.clear.new.self.places.now (λ i. record { count = c.clear.ensures.count i; places = c.clear.ensures.places i }) (omega (arith, l)) c.order-order.ensures _ _ c.put.ensures.count c.put.ensures.places c.args.orders.now.count);
     }

@@ -6,4 +6,4 @@ use Rattle.book.proofs.book.Book.session_at.Goals as goal
 
 pub returns : goal.returns
 unfolding session_at
-returns c = c.unwrap-or.ensures ∙ ap (λ (o : Option Session). unwrap_or o nobody) c.look-up.ensures
+returns c = c.unwrap_or.ensures ∙ ap (λ (o : Option Session). unwrap_or o nobody) c.look_up.ensures

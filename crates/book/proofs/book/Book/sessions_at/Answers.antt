@@ -10,8 +10,8 @@ pub loop-i-preserved : goal.loop-i-preserved
 loop-i-preserved c =
     let b = c.args.self.now in
     let h : c.loop-i.i < length c.loop-i.chain = omega (arith, c.loop-i.invariant.0, c.requires) in (
-      length-set c.loop-i.chain c.loop-i.i c.session-at.result ∙ c.loop-i.invariant.0,
-      written_more (session_at (parts_in b) (standing_in b)) c.args.codes.now c.loop-i.chain c.loop-i.i 0 c.session-at.result c.loop-i-test.true h c.loop-i.invariant.1 c.session-at.ensures,
+      length-set c.loop-i.chain c.loop-i.i c.session_at.result ∙ c.loop-i.invariant.0,
+      written_more (session_at (parts_in b) (standing_in b)) c.args.codes.now c.loop-i.chain c.loop-i.i 0 c.session_at.result c.loop-i-test.true h c.loop-i.invariant.1 c.session_at.ensures,
     )
 
 pub returns : goal.returns

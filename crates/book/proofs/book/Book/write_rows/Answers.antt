@@ -14,8 +14,8 @@ use Rattle.book.proofs.book.Book.write_rows.Goals as goal
 pub loop-w-init : goal.loop-w-init
 loop-w-init c = (refl, ap (λ (n : ℕ). record { count = n; places = c.clear.new.self.places.now }) c.clear.ensures.count)
 
-pub write-rows-on-requires : goal.write-rows-on-requires
-write-rows-on-requires c =
+pub write_rows_on-requires : goal.write_rows_on-requires
+write_rows_on-requires c =
     let b = c.args.self.now in
     let on = rows_on (parts_in b) (standing_in b) in
     let room = flat_room on c.loop-w.w b.setting.waves (length c.args.rows.now.places.now) c.loop-w-test.true c.requires in
@@ -26,8 +26,8 @@ pub loop-w-preserved : goal.loop-w-preserved
 loop-w-preserved c =
     let b = c.args.self.now in
     let on = rows_on (parts_in b) (standing_in b) in (
-      c.write-rows-on.ensures.same ∙ c.loop-w.invariant.0,
-      page_more (flat on (range_with_len 0 c.loop-w.w)) (on c.loop-w.w) (page_of c.clear.new.self) (page_of c.loop-w.rows) (page_of c.write-rows-on.new.rows) c.loop-w.invariant.1 c.write-rows-on.ensures.page
+      c.write_rows_on.ensures.same ∙ c.loop-w.invariant.0,
+      page_more (flat on (range_with_len 0 c.loop-w.w)) (on c.loop-w.w) (page_of c.clear.new.self) (page_of c.loop-w.rows) (page_of c.write_rows_on.new.rows) c.loop-w.invariant.1 c.write_rows_on.ensures.page
           ∙ ap (λ (xs : List Session). rewritten (Some xs) (page_of c.clear.new.self)) (sym (flat_more on c.loop-w.w)),
     )
 

@@ -11,7 +11,7 @@ use Rattle.book.specs.Books.{parts_in, standing_in}
 use Rattle.book.specs.Calls.{rows_on}
 use Rattle.book.proofs.Listing.{flat_step, flat_done, row_none, row_some, rows_start, rows_end}
 use Rattle.book.proofs.book.Book.write_rows_on.Goals as goal
-use Rattle.book.proofs.book.Book.write_rows_on.Goals.{in-Some, in-default}
+use Rattle.book.proofs.book.Book.write_rows_on.Goals.{in-Some, in_default}
 
 pub loop-a-init : goal.loop-a-init
 loop-a-init c =
@@ -35,14 +35,14 @@ loop-a-preserved c =
     let rest : List Session = flat at (range_with_len (c.loop-a.a + 1) (b.setting.span - (c.loop-a.a + 1))) in
     let left = subst (λ (xs : List Session). Left old.places.now c.loop-a.rows.places.now c.loop-a.rows.count whole xs) (flat_step at c.loop-a.a b.setting.span c.loop-a-test.true) c.loop-a.invariant.1 in
     let Goal : Sheet Session → Type 0 = λ s. (s.places.ghost_name ≡ old.places.ghost_name) × Left old.places.now s.places.now s.count whole rest in
-    elim c.match-look-up.branch [
+    elim c.match-look_up.branch [
       | in-Some w ↦ subst Goal (sym w.rows-is) (
         w.put.ensures.same ∙ c.loop-a.invariant.0,
         row_some old.places.now c.loop-a.rows.places.now c.loop-a.rows.count whole (first (leaves g c.args.w c.loop-a.a) ss) rest left w.in-Some.s (sym w.in-Some.ensures) _ _ w.put.ensures.count w.put.ensures.places,
       )
-      | in-default w ↦ subst Goal (sym w.rows-is) (
+      | in_default w ↦ subst Goal (sym w.rows-is) (
         c.loop-a.invariant.0,
-        row_none old.places.now c.loop-a.rows.places.now c.loop-a.rows.count whole (first (leaves g c.args.w c.loop-a.a) ss) rest left (sym w.in-default.ensures),
+        row_none old.places.now c.loop-a.rows.places.now c.loop-a.rows.count whole (first (leaves g c.args.w c.loop-a.a) ss) rest left (sym w.in_default.ensures),
       )
     ]
 

@@ -18,8 +18,8 @@ returns c =
     let old = c.args.orders.now.places.now in
     let fit : length xs + 1 ≤ length old = omega (arith, c.requires, chain_length g c.args.p c.args.q (reverse es), length-reverse es) in
     record {
-      same = c.put.ensures.same ∙ (c.write-change.ensures.same ∙ c.clear.ensures.same);
+      same = c.put.ensures.same ∙ (c.write_change.ensures.same ∙ c.clear.ensures.same);
       page =
-          last_put old 0 xs (order g Light c.args.new) c.order.result _ _ (over_page xs c.clear.new.self.count c.clear.new.self.places.now 0 old c.write-change.ensures.page c.clear.ensures.places) fit
+          last_put old 0 xs (order g Light c.args.new) c.order.result _ _ (over_page xs c.clear.new.self.count c.clear.new.self.places.now 0 old c.write_change.ensures.page c.clear.ensures.places) fit
           c.order.ensures _ _ c.put.ensures.count c.put.ensures.places c.args.orders.now.count;
     }
