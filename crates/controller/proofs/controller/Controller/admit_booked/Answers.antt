@@ -12,20 +12,20 @@ use Rattle.controller.proofs.Replies.{admit_rows}
 use Rattle.controller.proofs.Serving.{carried_out}
 use Rattle.controller.proofs.controller.Controller.admit_booked.Goals as goal
 
-pub returns-in-err-admitted : goal.returns-in-err-admitted
-returns-in-err-admitted g c =
+pub returns-in_err-admitted : goal.returns-in_err-admitted
+returns-in_err-admitted g c =
     let k = c.args.self.now in
     let k' : Controller g.row.L.Denot g.row.P.Denot = record { layout = k.layout; plant = k.plant; book = c.admit.new.self } in
     let o = page_of c.args.orders.now in
     let o' = page_of c.admit.new.orders in
-    let e = c.in-err-admitted.field-0.0 in
+    let e = c.in_err-admitted.field-0.0 in
     let call = Admit c.args.number c.args.source c.args.destination c.args.limit in
     record {
       place = c.admit.ensures.same;
-      same = record { layout = refl; setting = c.in-err-admitted.ensures.booked.setting; kept = refl };
+      same = record { layout = refl; setting = c.in_err-admitted.ensures.booked.setting; kept = refl };
       serves = λ rows.
-          subst (λ (r : Result (ℕ × ℕ) CallRefusal). Serves g.L.Layout k call (admit_answer r) (moment g.P.Plant k o rows c.args.walk.now) (moment g.P.Plant k' o' rows c.admit.new.walk)) (handed_err c.from-residual.result e c.from-residual.ensures.1)
-          (carried_out g.L.Layout g.P.Plant k k' (g.met.L.Layout.grouped k.layout) (g.met.L.Layout.separate k.layout) call _ _ o o' rows c.args.walk.now c.admit.new.walk c.in-err-admitted.ensures.booked refl
+          subst (λ (r : Result (ℕ × ℕ) CallRefusal). Serves g.L.Layout k call (admit_answer r) (moment g.P.Plant k o rows c.args.walk.now) (moment g.P.Plant k' o' rows c.admit.new.walk)) (handed_err c.from_residual.result e c.from_residual.ensures.1)
+          (carried_out g.L.Layout g.P.Plant k k' (g.met.L.Layout.grouped k.layout) (g.met.L.Layout.separate k.layout) call _ _ o o' rows c.args.walk.now c.admit.new.walk c.in_err-admitted.ensures.booked refl
           (admit_rows (parts_in k.book) (record { orders = length o.places; rows = length rows.places }) (standing_in k.book) c.args.walk.now c.args.number c.args.source c.args.destination c.args.limit) c.admit.ensures.walk);
     }
 
@@ -38,8 +38,8 @@ returns g c =
     let call = Admit c.args.number c.args.source c.args.destination c.args.limit in
     record {
       place = c.admit.ensures.same;
-      same = record { layout = refl; setting = c.in-ok-admitted.ensures.booked.setting; kept = c.change.ensures.kept };
+      same = record { layout = refl; setting = c.in_ok-admitted.ensures.booked.setting; kept = c.change.ensures.kept };
       serves = λ rows.
-          carried_out g.L.Layout g.P.Plant k k' (g.met.L.Layout.grouped k.layout) (g.met.L.Layout.separate k.layout) call _ (changes c.in-ok-admitted.admitted) o o' rows c.args.walk.now c.admit.new.walk c.in-ok-admitted.ensures.booked c.change.ensures.after
+          carried_out g.L.Layout g.P.Plant k k' (g.met.L.Layout.grouped k.layout) (g.met.L.Layout.separate k.layout) call _ (changes c.in_ok-admitted.admitted) o o' rows c.args.walk.now c.admit.new.walk c.in_ok-admitted.ensures.booked c.change.ensures.after
           (admit_rows (parts_in k.book) (record { orders = length o.places; rows = length rows.places }) (standing_in k.book) c.args.walk.now c.args.number c.args.source c.args.destination c.args.limit) c.admit.ensures.walk;
     }

@@ -12,11 +12,11 @@ use Rattle.controller.proofs.controller.Controller.serve_each.Goals as goal
 pub loop-call-init : goal.loop-call-init
 loop-call-init g c =
     let k = c.args.self.now in
-    let made = c.in-ok-answers.ensures in
+    let made = c.in_ok-answers.ensures in
     (refl, refl, same_as g.P.Plant k, made.len, made.capacity, none_served (parts_in k.book) c.args.calls.now (moment g.P.Plant k (page_of c.args.orders.now) (page_of c.args.rows.now) c.args.walk.now) _ made.items)
 
-pub push-reserved-requires : goal.push-reserved-requires
-push-reserved-requires g c = omega (arith, c.loop-call.invariant.3, c.loop-call.invariant.4, c.loop-call-test.true)
+pub push_reserved-requires : goal.push_reserved-requires
+push_reserved-requires g c = omega (arith, c.loop-call.invariant.3, c.loop-call.invariant.4, c.loop-call-test.true)
 
 pub loop-call-preserved : goal.loop-call-preserved
 loop-call-preserved g c =
@@ -25,20 +25,20 @@ loop-call-preserved g c =
     let i = c.loop-call.call-index in
     let m = moment D k (page_of c.args.orders.now) (page_of c.args.rows.now) c.args.walk.now in
     let m' = moment D c.loop-call.self (page_of c.loop-call.orders) (page_of c.loop-call.rows) c.loop-call.walk in
-    let m'' = moment D c.serve-one.new.self (page_of c.serve-one.new.orders) (page_of c.serve-one.new.rows) c.serve-one.new.walk in
+    let m'' = moment D c.serve_one.new.self (page_of c.serve_one.new.orders) (page_of c.serve_one.new.rows) c.serve_one.new.walk in
     let same = c.loop-call.invariant.2 in (
-      c.serve-one.ensures.order-place ∙ c.loop-call.invariant.0,
-      c.serve-one.ensures.row-place ∙ c.loop-call.invariant.1,
-      same_on D k c.loop-call.self c.serve-one.new.self same c.serve-one.ensures.same,
-      omega (arith, c.push-reserved.ensures.len, c.loop-call.invariant.3),
-      omega (arith, c.push-reserved.ensures.capacity, c.loop-call.invariant.4),
-      one_more (parts_in k.book) c.args.calls.now m i (Admit 0 0 0 0) (vec_items c.loop-call.answers) (vec_items c.push-reserved.new.self) c.serve-one.result m' m'' c.loop-call-test.true c.push-reserved.ensures.items c.loop-call.invariant.5
-          (as_told D k c.loop-call.self same (get_or c.args.calls.now i (Admit 0 0 0 0)) _ m' m'' c.serve-one.ensures.serves.answered),
+      c.serve_one.ensures.order_place ∙ c.loop-call.invariant.0,
+      c.serve_one.ensures.row_place ∙ c.loop-call.invariant.1,
+      same_on D k c.loop-call.self c.serve_one.new.self same c.serve_one.ensures.same,
+      omega (arith, c.push_reserved.ensures.len, c.loop-call.invariant.3),
+      omega (arith, c.push_reserved.ensures.capacity, c.loop-call.invariant.4),
+      one_more (parts_in k.book) c.args.calls.now m i (Admit 0 0 0 0) (vec_items c.loop-call.answers) (vec_items c.push_reserved.new.self) c.serve_one.result m' m'' c.loop-call-test.true c.push_reserved.ensures.items c.loop-call.invariant.5
+          (as_told D k c.loop-call.self same (get_or c.args.calls.now i (Admit 0 0 0 0)) _ m' m'' c.serve_one.ensures.serves.answered),
     )
 
-pub returns-in-err-answers : goal.returns-in-err-answers
-returns-in-err-answers g c =
-    record { order-place = refl; row-place = refl; same = same_as g.P.Plant c.args.self.now; served = MatchResult-from_err c.from-residual.result _ _ c.from-residual.ensures.0 (λ _. refl) }
+pub returns-in_err-answers : goal.returns-in_err-answers
+returns-in_err-answers g c =
+    record { order_place = refl; row_place = refl; same = same_as g.P.Plant c.args.self.now; served = MatchResult-from_err c.from_residual.result _ _ c.from_residual.ensures.0 (λ _. refl) }
 
 pub returns : goal.returns
 returns g c =
@@ -46,8 +46,8 @@ returns g c =
     let k = c.args.self.now in
     let law = g.met.L.Layout in
     record {
-      order-place = c.loop-call.invariant.0;
-      row-place = c.loop-call.invariant.1;
+      order_place = c.loop-call.invariant.0;
+      row_place = c.loop-call.invariant.1;
       same = c.loop-call.invariant.2;
       served = all_served g.L.Layout k (law.grouped k.layout) (law.separate k.layout) (law.meeting k.layout) c.args.calls.now _ c.loop-call.call-index _ _ c.loop-call-test.false c.loop-call.invariant.5;
     }

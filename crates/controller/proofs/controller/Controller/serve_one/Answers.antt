@@ -7,8 +7,8 @@ use Rattle.controller.proofs.controller.Controller.serve_one.Goals as goal
 pub returns-in-Ok : goal.returns-in-Ok
 returns-in-Ok g c =
     record {
-      order-place = c.admit.ensures.place;
-      row-place = refl;
+      order_place = c.admit.ensures.place;
+      row_place = refl;
       same = c.admit.ensures.same;
       serves = as_call g.L.Layout c.args.self.now c.args.call _ _ _ _ c.in-Admit.is (c.in-Ok.ensures.serves (page_of c.args.rows.now));
     }
@@ -16,8 +16,8 @@ returns-in-Ok g c =
 pub returns-in-Err : goal.returns-in-Err
 returns-in-Err g c =
     record {
-      order-place = c.admit.ensures.place;
-      row-place = refl;
+      order_place = c.admit.ensures.place;
+      row_place = refl;
       same = c.admit.ensures.same;
       serves = as_call g.L.Layout c.args.self.now c.args.call _ _ _ _ c.in-Admit.is (c.in-Err.ensures.serves (page_of c.args.rows.now));
     }
@@ -25,8 +25,8 @@ returns-in-Err g c =
 pub returns-in-Ok-release : goal.returns-in-Ok-release
 returns-in-Ok-release g c =
     record {
-      order-place = c.release.ensures.place;
-      row-place = refl;
+      order_place = c.release.ensures.place;
+      row_place = refl;
       same = c.release.ensures.same;
       serves = as_call g.L.Layout c.args.self.now c.args.call _ _ _ _ c.in-Release.is (c.in-Ok-release.ensures.serves (page_of c.args.rows.now) c.args.walk.now);
     }
@@ -34,8 +34,8 @@ returns-in-Ok-release g c =
 pub returns-in-Err-release : goal.returns-in-Err-release
 returns-in-Err-release g c =
     record {
-      order-place = c.release.ensures.place;
-      row-place = refl;
+      order_place = c.release.ensures.place;
+      row_place = refl;
       same = c.release.ensures.same;
       serves = as_call g.L.Layout c.args.self.now c.args.call _ _ _ _ c.in-Release.is (c.in-Err-release.ensures.serves (page_of c.args.rows.now) c.args.walk.now);
     }
@@ -43,8 +43,8 @@ returns-in-Err-release g c =
 pub returns-in-Ok-quote : goal.returns-in-Ok-quote
 returns-in-Ok-quote g c =
     record {
-      order-place = refl;
-      row-place = refl;
+      order_place = refl;
+      row_place = refl;
       same = same_as g.P.Plant c.args.self.now;
       serves = as_call g.L.Layout c.args.self.now c.args.call _ _ _ _ c.in-Quote.is (c.in-Ok-quote.ensures (page_of c.args.orders.now) (page_of c.args.rows.now));
     }
@@ -52,8 +52,8 @@ returns-in-Ok-quote g c =
 pub returns-in-Err-quote : goal.returns-in-Err-quote
 returns-in-Err-quote g c =
     record {
-      order-place = refl;
-      row-place = refl;
+      order_place = refl;
+      row_place = refl;
       same = same_as g.P.Plant c.args.self.now;
       serves = as_call g.L.Layout c.args.self.now c.args.call _ _ _ _ c.in-Quote.is (c.in-Err-quote.ensures (page_of c.args.orders.now) (page_of c.args.rows.now));
     }
@@ -61,8 +61,8 @@ returns-in-Err-quote g c =
 pub returns-in-Ok-locate : goal.returns-in-Ok-locate
 returns-in-Ok-locate g c =
     record {
-      order-place = refl;
-      row-place = refl;
+      order_place = refl;
+      row_place = refl;
       same = same_as g.P.Plant c.args.self.now;
       serves = as_call g.L.Layout c.args.self.now c.args.call _ _ _ _ c.in-Where.is (c.in-Ok-locate.ensures.serves (page_of c.args.orders.now) (page_of c.args.rows.now) c.args.walk.now);
     }
@@ -70,8 +70,8 @@ returns-in-Ok-locate g c =
 pub returns-in-Err-locate : goal.returns-in-Err-locate
 returns-in-Err-locate g c =
     record {
-      order-place = refl;
-      row-place = refl;
+      order_place = refl;
+      row_place = refl;
       same = same_as g.P.Plant c.args.self.now;
       serves = as_call g.L.Layout c.args.self.now c.args.call _ _ _ _ c.in-Where.is (c.in-Err-locate.ensures.serves (page_of c.args.orders.now) (page_of c.args.rows.now) c.args.walk.now);
     }
@@ -79,8 +79,8 @@ returns-in-Err-locate g c =
 pub returns-in-Ok-list : goal.returns-in-Ok-list
 returns-in-Ok-list g c =
     record {
-      order-place = refl;
-      row-place = c.list.ensures.place;
+      order_place = refl;
+      row_place = c.list.ensures.place;
       same = same_as g.P.Plant c.args.self.now;
       serves = as_call g.L.Layout c.args.self.now c.args.call _ _ _ _ c.in-List.is (c.in-Ok-list.ensures.serves (page_of c.args.orders.now) c.args.walk.now);
     }
@@ -88,8 +88,8 @@ returns-in-Ok-list g c =
 pub returns-in-Err-list : goal.returns-in-Err-list
 returns-in-Err-list g c =
     record {
-      order-place = refl;
-      row-place = c.list.ensures.place;
+      order_place = refl;
+      row_place = c.list.ensures.place;
       same = same_as g.P.Plant c.args.self.now;
       serves = as_call g.L.Layout c.args.self.now c.args.call _ _ _ _ c.in-List.is (c.in-Err-list.ensures.serves (page_of c.args.orders.now) c.args.walk.now);
     }
