@@ -6,7 +6,7 @@ use Rattle.text.proofs.answers.table.Goals as goal
 
 pub loop-row-init : goal.loop-row-init
 unfolding table_names
-loop-row-init c = c.in-ok-out.ensures.ok ∙ sym (append-nil table_names)
+loop-row-init c = c.in_ok-out.ensures.ok ∙ sym (append-nil table_names)
 
 row_more : (rs : List Row) (i : ℕ) (d : Row) (a b : List ℕ) → i < length rs → a ≡ table_bytes (take i rs) → b ≡ a ++ row_bytes (get_or rs i d) → b ≡ table_bytes (take (i + 1) rs)
 row_more rs i d a b h p q =
@@ -14,7 +14,7 @@ row_more rs i d a b h p q =
     ∙ ap table_bytes (sym (take_more rs i d h))
 
 pub loop-row-preserved : goal.loop-row-preserved
-loop-row-preserved c = row_more c.args.rows.now c.loop-row.row-index _ _ _ c.loop-row-test.true c.loop-row.invariant c.in-ok-add-row.ensures
+loop-row-preserved c = row_more c.args.rows.now c.loop-row.row-index _ _ _ c.loop-row-test.true c.loop-row.invariant c.in_ok-add_row.ensures
 
 pub returns : goal.returns
 returns c = search (rules, take_all)

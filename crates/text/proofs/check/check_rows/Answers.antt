@@ -10,7 +10,7 @@ row_more es i d xs ys r h ex er ey =
     ey ∙ ap (λ (x : Row). xs ++ x ∷ []) er ∙ ap (λ (zs : List Row). zs ++ check_row (get_or es i d) ∷ []) ex ∙ sym (map_more check_row es i d h)
 
 pub loop-entry-preserved : goal.loop-entry-preserved
-loop-entry-preserved c = row_more c.args.entries.now c.loop-entry.entry-index _ _ _ _ c.loop-entry-test.true c.loop-entry.invariant c.check-row.ensures c.in-ok-push.ensures.items
+loop-entry-preserved c = row_more c.args.entries.now c.loop-entry.entry-index _ _ _ _ c.loop-entry-test.true c.loop-entry.invariant c.check_row.ensures c.in_ok-push.ensures.items
 
 pub returns : goal.returns
 returns c = search (rules, take_all)

@@ -17,17 +17,17 @@ returns g c =
     let k = c.args.controller.now in
     let m = moment D k (page_of c.args.orders.now) (page_of c.args.rows.now) c.args.walk.now in
     let m' = moment D c.serve.new.self (page_of c.serve.new.orders) (page_of c.serve.new.rows) c.serve.new.walk in
-    let es = c.as-slice-3.result.now in
+    let es = c.as_slice-3.result.now in
     record {
-      order-place = c.serve.ensures.order-place;
-      row-place = c.serve.ensures.row-place;
+      order_place = c.serve.ensures.order_place;
+      row_place = c.serve.ensures.row_place;
       same = c.serve.ensures.same;
-      served = IfOk-weaker c.write-answers.result _ _
+      served = IfOk-weaker c.write_answers.result _ _
           (λ s p.
-          text_served g.L.Layout k c.args.text.now es c.as-slice-2.result.now (map answer_of (vec_items c.in-ok-answers.answers)) m m' _
-          (c.as-slice-3.ensures.value ∙ c.in-ok-entries.ensures.entries)
-          (c.as-slice-2.ensures.value ∙ c.in-ok-calls.ensures ∙ ap calls_of (c.as-slice.ensures.value ∙ sym c.as-slice-3.ensures.value))
-          c.in-ok-answers.ensures.served
-          (p ∙ ap (λ (xs : List (Result Accepted CallRefusal)). output_bytes es (map answer_of xs) (rows_shown (map answer_of xs) m'.rows)) c.as-slice-4.ensures.value))
-          c.write-answers.ensures;
+          text_served g.L.Layout k c.args.text.now es c.as_slice-2.result.now (map answer_of (vec_items c.in_ok-answers.answers)) m m' _
+          (c.as_slice-3.ensures.value ∙ c.in_ok-entries.ensures.entries)
+          (c.as_slice-2.ensures.value ∙ c.in_ok-calls.ensures ∙ ap calls_of (c.as_slice.ensures.value ∙ sym c.as_slice-3.ensures.value))
+          c.in_ok-answers.ensures.served
+          (p ∙ ap (λ (xs : List (Result Accepted CallRefusal)). output_bytes es (map answer_of xs) (rows_shown (map answer_of xs) m'.rows)) c.as_slice-4.ensures.value))
+          c.write_answers.ensures;
     }

@@ -9,12 +9,12 @@ pub returns : goal.returns
 returns g c =
     let o = c.new-orders.result in
     let r = c.new-rows.result in
-    let after = c.serve-text.new in
+    let after = c.serve_text.new in
     record {
-      bytes = IfOk-weaker c.serve-text.result _ _
+      bytes = IfOk-weaker c.serve_text.result _ _
           (λ s p. new_bytes_lem g.L.Layout g.P.Plant c.args.layout c.args.plant c.new-controller.result after.controller c.new-controller.ensures (page_of o) (page_of after.orders) (page_of r) (page_of after.rows) _ after.walk (ap length c.new-orders.ensures.places) (ap length c.new-rows.ensures.places) refl c.args.text.now _ p)
-          c.serve-text.ensures.served;
-      law = IfOk-weaker c.serve-text.result _ _
+          c.serve_text.ensures.served;
+      law = IfOk-weaker c.serve_text.result _ _
           (λ s p. new_run g.L.Layout g.P.Plant c.args.layout c.args.plant c.new-controller.result after.controller c.new-controller.ensures (page_of o) (page_of after.orders) (page_of r) (page_of after.rows) _ after.walk (ap length c.new-orders.ensures.places) (ap length c.new-rows.ensures.places) refl c.args.text.now _ p)
-          c.serve-text.ensures.served;
+          c.serve_text.ensures.served;
     }

@@ -9,9 +9,9 @@ use Rattle.text.proofs.star.star_text.Goals as goal
 
 pub returns : goal.returns
 returns c =
-    let k = c.four-sites.result in
-    let h = c.dark-hub.result in
+    let k = c.four_sites.result in
+    let h = c.dark_hub.result in
     record {
-      bytes = IfOk-weaker c.serve-new.result _ _ (λ s p. at_parts (star_stored k.sites k.ports) four_sites (mirror_switch h.waves h.groups h.mirrors) dark_hub c.args.text.now _ c.four-sites.ensures c.dark-hub.ensures p) c.serve-new.ensures.bytes;
-      law = IfOk-weaker c.serve-new.result _ _ (λ s p. dark_run (star_stored k.sites k.ports) four_sites (mirror_switch h.waves h.groups h.mirrors) dark_hub c.args.text.now c.four-sites.ensures c.dark-hub.ensures refl p) c.serve-new.ensures.law;
+      bytes = IfOk-weaker c.serve_new.result _ _ (λ s p. at_parts (star_stored k.sites k.ports) four_sites (mirror_switch h.waves h.groups h.mirrors) dark_hub c.args.text.now _ c.four_sites.ensures c.dark_hub.ensures p) c.serve_new.ensures.bytes;
+      law = IfOk-weaker c.serve_new.result _ _ (λ s p. dark_run (star_stored k.sites k.ports) four_sites (mirror_switch h.waves h.groups h.mirrors) dark_hub c.args.text.now c.four_sites.ensures c.dark_hub.ensures refl p) c.serve_new.ensures.law;
     }
