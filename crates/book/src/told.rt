@@ -13,7 +13,7 @@ use reckoning::session::Session;
 
 // No group hears any on the wavelength.
 fn quiet_on<P: Plant>(plant: &P, w: u8) -> bool
-    ensures { result ≡ quiet (P.Plant.state plant.now).hears w (P.Plant.state plant.now).groups }
+    ensures { result ≡ quiet (P.state plant.now).hears w (P.state plant.now).groups }
 {
     let mut dark = true;
     for b in 0..plant.groups() {
@@ -23,7 +23,7 @@ fn quiet_on<P: Plant>(plant: &P, w: u8) -> bool
 }
 
 fn is_dark<P: Plant>(plant: &P) -> bool
-    ensures { result ≡ is_dark (P.Plant.state plant.now) }
+    ensures { result ≡ is_dark (P.state plant.now) }
 {
     let mut dark = true;
     for w in 0..plant.waves() {
@@ -33,8 +33,8 @@ fn is_dark<P: Plant>(plant: &P) -> bool
 }
 
 fn told<L: Layout, P: Plant>(layout: &L, plant: &P) -> Setting
-    ensures proper { Proper (P.Plant.state plant.now) }
-    ensures parts { parts_of result ≡ parts_told (L.Layout.network layout.now) (P.Plant.state plant.now) }
+    ensures proper { Proper (P.state plant.now) }
+    ensures parts { parts_of result ≡ parts_told (L.network layout.now) (P.state plant.now) }
 {
     let mut ports = [0u8; 256];
     let mut group = [0u8; 256];
@@ -75,9 +75,9 @@ impl Book {
 
     /// A book with no sessions, for the parts as they are now.
     pub fn new<L: Layout, P: Plant>(layout: &L, plant: &P) -> Book
-        ensures parts { parts_in result ≡ parts_told (L.Layout.network layout.now) (P.Plant.state plant.now) }
+        ensures parts { parts_in result ≡ parts_told (L.network layout.now) (P.state plant.now) }
         ensures none { standing_in result ≡ [] }
-        ensures proper { Proper (P.Plant.state plant.now) }
+        ensures proper { Proper (P.state plant.now) }
     {
         Book::empty(told(layout, plant))
     }

@@ -16,8 +16,8 @@ fn same_source(a: Option<u8>, b: Option<u8>) -> bool
 }
 
 fn agree_on<A: Plant, B: Plant>(first: &A, second: &B, w: u8) -> bool
-    ensures yes { result ≡ true → (b : ℕ) → b < (A.Plant.state first.now).groups → (A.Plant.state first.now).hears w b ≡ (B.Plant.state second.now).hears w b }
-    ensures no { result ≡ false → ((b : ℕ) → (A.Plant.state first.now).hears w b ≡ (B.Plant.state second.now).hears w b) → ⊥ }
+    ensures yes { result ≡ true → (b : ℕ) → b < (A.state first.now).groups → (A.state first.now).hears w b ≡ (B.state second.now).hears w b }
+    ensures no { result ≡ false → ((b : ℕ) → (A.state first.now).hears w b ≡ (B.state second.now).hears w b) → ⊥ }
 {
     for b in 0..first.groups() {
         if !same_source(first.heard(w, b), second.heard(w, b)) {
@@ -29,8 +29,8 @@ fn agree_on<A: Plant, B: Plant>(first: &A, second: &B, w: u8) -> bool
 
 /// True exactly where both have the same counts and the same is heard everywhere.
 pub(crate) fn agree<A: Plant, B: Plant>(first: &A, second: &B) -> bool
-    ensures yes { result ≡ true → Same (A.Plant.state first.now) (B.Plant.state second.now) }
-    ensures no { result ≡ false → Same (A.Plant.state first.now) (B.Plant.state second.now) → ⊥ }
+    ensures yes { result ≡ true → Same (A.state first.now) (B.state second.now) }
+    ensures no { result ≡ false → Same (A.state first.now) (B.state second.now) → ⊥ }
 {
     if first.waves() != second.waves() || first.groups() != second.groups() {
         return false;

@@ -17,8 +17,8 @@ use plant::hub::MirrorHub;
 
 // A sound start: a run from here keeps the law, with no premise left.
 fn started<L: Layout + Drop, P: Plant + Drop>(layout: L, plant: P) -> Controller<L, P>
-    requires { is_dark (P.Plant.state plant) ≡ true }
-    ensures { (orders : Page Order) (rows : Page Session) (walk : List ℕ) → Start (L.Layout.network result.layout) (parts_in result.book) (moment P.Plant result orders rows walk) }
+    requires { is_dark (P.state plant) ≡ true }
+    ensures { (orders : Page Order) (rows : Page Session) (walk : List ℕ) → Start (L.network result.layout) (parts_in result.book) (moment P.Plant result orders rows walk) }
 {
     Controller::new(layout, plant)
 }

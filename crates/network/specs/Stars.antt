@@ -3,7 +3,7 @@ use Rattle.std.specs.Prelude.{◌≡◌, ℕ, ◌+◌, ◌*◌, ◌<◌, ◌≤�
 use Rattle.std.proofs.Common.{arith, sym, subst, inl}
 use Rattle.std.proofs.lemmas.List.{get_or_past}
 use Rattle.std.proofs.lemmas.Bool.{cond-true, cond-false, lt-ltb, le-ltb, and_from, and_parts}
-use Rattle.network.specs.Network.{Bounded, Outside, Separate, Meeting, Ends, star, two_sites, up_or_down, sound_star}
+use Rattle.network.specs.Network.{Bounded, Outside, Grouped, Separate, Meeting, Ends, star, two_sites, up_or_down, sound_star}
 use Rattle.network.specs.Verdicts.{star_ported, few_ports, some_port}
 use Rattle.network.specs.Lit.{ends_from, from_ends, up_or_down_lem, up, down, separate_from, meeting_from}
 
@@ -30,17 +30,20 @@ star_outside ports =
 pub star_separate : (ports : List ℕ) → Separate (star ports)
 star_separate ports = separate_from (star ports) (λ s d f h. let p = lit ports s d f h in (p.0, inl p.1))
 
+own : (ports : List ℕ) (s : ℕ) → s < length ports → s ≡ (star ports).group s
+own ports s l = sym (cond-true (nat_lt s (length ports)) s (length ports) (lt-ltb s (length ports) l))
+
+pub star_grouped : (ports : List ℕ) → Grouped (star ports)
+star_grouped ports s l = subst (λ (g : ℕ). g < length ports) (own ports s l) l
+
 -- a site is its own group, so its own fibres serve
 pub star_meeting : (ports : List ℕ) → Meeting (star ports)
 star_meeting ports =
     meeting_from (star ports) 0
     (λ s d e. (
-      subst (λ (g : ℕ). (star ports).lights s d (0 + 2 * g) ≡ true) (own s e.source) (by_own s d (0 + 2 * s) e (up 0 s d)),
-      subst (λ (g : ℕ). (star ports).lights s d (0 + 2 * g + 1) ≡ true) (own d e.destination) (by_own s d (0 + 2 * d + 1) e (down 0 s d)),
+      subst (λ (g : ℕ). (star ports).lights s d (0 + 2 * g) ≡ true) (own ports s e.source) (by_own s d (0 + 2 * s) e (up 0 s d)),
+      subst (λ (g : ℕ). (star ports).lights s d (0 + 2 * g + 1) ≡ true) (own ports d e.destination) (by_own s d (0 + 2 * d + 1) e (down 0 s d)),
     ))
   where
-    own : (s : ℕ) → s < length ports → s ≡ (star ports).group s
-    own s l = sym (cond-true (nat_lt s (length ports)) s (length ports) (lt-ltb s (length ports) l))
-
     by_own : (s d f : ℕ) → Ends (length ports) s d → up_or_down 0 s d f ≡ true → (star ports).lights s d f ≡ true
     by_own s d f e h = and_from (two_sites (length ports) s d) (up_or_down 0 s d f) (from_ends (length ports) s d e) h

@@ -1,8 +1,7 @@
 //! A star: each site is a group of its own, with one up-fibre and one down-fibre.
 ghost use Rattle.std.specs.Prelude.{◌≡◌, true, length, take};
 ghost use Rattle.network.specs.Network.{Bounded, star_network, star_stored, sound_star};
-ghost use Rattle.network.specs.Stars.{star_bounded, star_outside, star_separate, star_meeting};
-ghost use Rattle.std.proofs.Common.{rules, arith};
+ghost use Rattle.network.specs.Stars.{star_bounded, star_outside, star_grouped, star_separate, star_meeting};
 
 use crate::check::{STAR_SITES, check_star};
 use crate::layout::Layout;
@@ -51,7 +50,7 @@ impl Layout for Star {
 
     ghost outside = { λ x. star_outside (take x.sites x.ports) };
 
-    ghost grouped = { first_of (Prim.search rules, Prim.grind (arith, Self.row.coded.inj)) };
+    ghost grouped = { λ x. star_grouped (take x.sites x.ports) };
 
     ghost separate = { λ x. star_separate (take x.sites x.ports) };
 

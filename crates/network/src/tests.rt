@@ -34,8 +34,8 @@ fn both_light<L: Layout>(
     destination2: u8,
     fibre: u16,
 ) -> bool
-    ensures shared { result ≡ true → ((L.Layout.network layout.now).group source ≡ (L.Layout.network layout.now).group source2) ⊎ ((L.Layout.network layout.now).group destination ≡ (L.Layout.network layout.now).group destination2) }
-    ensures meets { Ends (L.Layout.network layout.now).sites source destination → Ends (L.Layout.network layout.now).sites source destination2 → (f : ℕ) × ((L.Layout.network layout.now).lights source destination f ≡ true) × ((L.Layout.network layout.now).lights source destination2 f ≡ true) }
+    ensures shared { result ≡ true → ((L.network layout.now).group source ≡ (L.network layout.now).group source2) ⊎ ((L.network layout.now).group destination ≡ (L.network layout.now).group destination2) }
+    ensures meets { Ends (L.network layout.now).sites source destination → Ends (L.network layout.now).sites source destination2 → (f : ℕ) × ((L.network layout.now).lights source destination f ≡ true) × ((L.network layout.now).lights source destination2 f ≡ true) }
 {
     layout.lights(source, destination, fibre) & layout.lights(source2, destination2, fibre)
 }

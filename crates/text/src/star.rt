@@ -38,8 +38,8 @@ fn serve_new<L: Layout + Drop, P: Plant + Drop>(
     plant: P,
     text: &[u8],
 ) -> Result<String, AllocError>
-    ensures bytes { IfOk result (λ s. string_bytes s ≡ new_bytes (L.Layout.network layout) (P.Plant.state plant) text.now) }
-    ensures law { OnOk result (is_dark (P.Plant.state plant) ≡ true → NewRun (L.Layout.network layout) (P.Plant.state plant) text.now) }
+    ensures bytes { IfOk result (λ s. string_bytes s ≡ new_bytes (L.network layout) (P.state plant) text.now) }
+    ensures law { OnOk result (is_dark (P.state plant) ≡ true → NewRun (L.network layout) (P.state plant) text.now) }
 {
     let mut controller = Controller::new(layout, plant);
     let mut order_places = [NO_ORDER; 7];
