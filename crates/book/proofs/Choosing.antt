@@ -1,17 +1,16 @@
 -- The choice: the two ways of the plan, and the walk list that holds both chains.
-use Rattle.std.proofs.Common.{◌≡◌, ℕ, zero, suc, ◌+◌, ◌-◌, ◌*◌, ◌<◌, ◌≤◌, Bool, true, false, cond, not, ◌&&◌, ltb, leb, List, [], ◌∷◌, ◌++◌, map, length, take, drop, Option, sym, refl, ap, ◌∙◌, subst, ap₂, zero-add, arith}
-use Rattle.std.proofs.lemmas.List.{append_assoc, append-nil, length-append, length-map, length-drop, drop-drop, map-append}
-use Rattle.std.proofs.lemmas.Bool.{lt-ltb, le-ltb, le-leb, lt-leb, true≢false}
+use Rattle.std.proofs.Common.{◌≡◌, ℕ, ◌+◌, ◌<◌, ◌≤◌, Bool, true, false, not, ◌&&◌, leb, List, [], ◌∷◌, ◌++◌, length, take, drop, Option, sym, refl, ap, ◌∙◌, subst, ap₂, zero-add, arith}
+use Rattle.std.proofs.lemmas.List.{append_assoc, length-append, length-map, length-drop, drop-drop, map-append}
+use Rattle.std.proofs.lemmas.Bool.{le-ltb, le-leb, lt-leb, true≢false}
 use Rattle.reckoning.specs.declared.session.Session.{Session}
-use Rattle.reckoning.specs.Lists.{first, chain, lowest}
+use Rattle.reckoning.specs.Lists.{first, lowest}
 use Rattle.reckoning.specs.Parts.{Parts}
 use Rattle.reckoning.specs.Standing.{leaves, enters, lit_out, lit_into}
-use Rattle.reckoning.specs.Plans.{Plan, next, direct, shorter, exchange, plan}
+use Rattle.reckoning.specs.Plans.{Plan, direct, shorter, exchange}
 use Rattle.reckoning.specs.Sheets.{code, codes, walked}
 use Rattle.reckoning.specs.Laws.{Sound}
 use Rattle.reckoning.proofs.Admissions.{colouring}
 use Rattle.reckoning.proofs.Plans.{Good, plan_good}
-use Rattle.book.specs.declared.course.Course.{Course}
 use Rattle.book.specs.Walks.{chained, laid}
 use Rattle.book.specs.Courses.{Open, Chosen, plan_for}
 

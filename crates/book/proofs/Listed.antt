@@ -4,7 +4,7 @@ use Rattle.std.proofs.lemmas.Bool.{le-leb}
 use Rattle.reckoning.specs.declared.session.Session.{Session}
 use Rattle.reckoning.specs.Calls.{Reply, refused, listed, unchanged, list}
 use Rattle.reckoning.specs.Parts.{Parts}
-use Rattle.reckoning.specs.Questions.{Room, Question, verdict, fit, list_questions}
+use Rattle.reckoning.specs.Questions.{Room, verdict, fit, list_questions}
 use Rattle.reckoning.specs.Sheets.{rows_of}
 use Rattle.book.specs.declared.refusal.CallRefusal.{CallRefusal}
 use Rattle.book.specs.Refusals.{refusal_number}

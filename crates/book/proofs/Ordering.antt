@@ -1,5 +1,5 @@
 -- The orders of a change-over, written one after the other into a sheet.
-use Rattle.std.proofs.Common.{◌≡◌, ℕ, ◌+◌, ◌-◌, ◌*◌, ◌<◌, ◌≤◌, List, [], ◌∷◌, ◌++◌, reverse, length, get_or, take, drop, Some, sym, refl, ap, ◌∙◌, subst, ap₂, arith}
+use Rattle.std.proofs.Common.{◌≡◌, ℕ, ◌+◌, ◌-◌, ◌*◌, ◌<◌, ◌≤◌, List, [], ◌∷◌, ◌++◌, reverse, length, get_or, take, drop, Some, sym, refl, ap, ◌∙◌, subst, arith}
 use mathlib.Core.List.{reverse-append}
 use Rattle.std.proofs.lemmas.List.{length-append, length-drop, length-reverse, take_more, take_all}
 use Rattle.reckoning.specs.declared.session.Session.{Session}

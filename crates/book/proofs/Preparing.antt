@@ -5,7 +5,7 @@ use Rattle.std.proofs.lemmas.Bool.{and_parts, eqb-true, ltb-true, leb-true, le-l
 use Rattle.reckoning.specs.declared.session.Session.{Session}
 use Rattle.reckoning.specs.Calls.{Reply, refused, unchanged, judged, admission, admit}
 use Rattle.reckoning.specs.Parts.{Parts}
-use Rattle.reckoning.specs.Plans.{Plan, planned}
+use Rattle.reckoning.specs.Plans.{planned}
 use Rattle.reckoning.specs.Questions.{Room, Question, verdict, loads, admit_before, admit_questions}
 use Rattle.reckoning.specs.Sheets.{walked}
 use Rattle.reckoning.proofs.Verdicts.{passed, never, passed_on, stopped}

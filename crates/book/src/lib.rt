@@ -1,4 +1,6 @@
 //! The book of a controller: the standing sessions, and what each call comes to on paper, with no plant at hand.
+#![tactic(auto)]
+
 pub mod admit;
 pub mod book;
 mod chain;

@@ -1,4 +1,5 @@
 //! Commissions a splitter with both makes of plant: checks, makes, lights, moves, and compares what is heard.
+#![tactic(auto)]
 
 mod compare;
 mod job;

@@ -1,26 +1,21 @@
 -- What a book answers on paper and a plant carries out is a call of the controller.
-use Rattle.std.proofs.Common.{◌≡◌, ℕ, List, [], map, length, None, Option, sym, refl, ap, ◌∙◌, subst}
+use Rattle.std.proofs.Common.{◌≡◌, ℕ, List, map, length, None, Option, sym, refl, ap, ◌∙◌, subst}
 use Rattle.network.specs.Network.{Grouped, Separate}
 use Rattle.network.specs.declared.layout.Layout.{Ghosts as LayoutGhosts}
 use Rattle.plant.specs.declared.Plant.{Ghosts as PlantGhosts}
-use Rattle.plant.specs.Switch.{Switch}
 use Rattle.plant.specs.Orders.{until_refused, Order as Put}
 use Rattle.reckoning.specs.declared.call.Call.{Call}
-use Rattle.reckoning.specs.declared.call.Call.TheVariants.{Admit, Release, Quote, Where, List as Rows}
 use Rattle.reckoning.specs.declared.order.Order.{Order}
 use Rattle.reckoning.specs.declared.session.Session.{Session}
-use Rattle.reckoning.specs.Calls.{Answer, Reply, admit, release, quote, locate, list, reply}
+use Rattle.reckoning.specs.Calls.{Answer, reply}
 use Rattle.reckoning.specs.Laws.{put, written}
-use Rattle.reckoning.specs.Questions.{Room}
-use Rattle.reckoning.specs.Runs.{Page, rewritten, Moment, room_in, reply_in, Answered}
+use Rattle.reckoning.specs.Runs.{Page, rewritten, Moment, Answered}
 use Rattle.reckoning.proofs.LawOfRuns.{one_call}
-use Rattle.reckoning.proofs.Runs.{Still, still_quote, still_locate, still_list}
-use Rattle.book.specs.declared.book.Book.{Book}
+use Rattle.reckoning.proofs.Runs.{Still}
 use Rattle.book.specs.Books.{parts_in, standing_in}
 use Rattle.book.specs.Calls.{Booked}
 use Rattle.controller.specs.declared.controller.Controller.{Controller}
 use Rattle.controller.specs.Service.{Same, Serves, moment}
-use Rattle.controller.proofs.Replies.{admit_rows, quote_rows, release_rows, release_walk, where_rows, where_walk, list_walk}
 
 module _ {N P : Type 0} (E : LayoutGhosts N) (D : PlantGhosts P) (c c' : Controller N P) (grouped : Grouped (E.network c.layout)) (separate : Separate (E.network c.layout)) where
   -- what is answered keeps the law

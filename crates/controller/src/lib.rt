@@ -1,4 +1,6 @@
 //! A controller: it decides from its book, drives its plant through slips, and keeps the law of runs.
+#![tactic(auto)]
+
 pub mod answer;
 mod booked;
 pub mod calls;

@@ -1,4 +1,6 @@
 //! Controllers of stars and splitters, on hubs and on fabrics: each is a sound start, and each serves the worked cases.
+#![tactic(auto)]
+
 mod made;
 #[cfg(test)]
 mod tests;

@@ -1,4 +1,6 @@
 //! Plants: switches that light and darken lightpaths. Two makes stand under one contract, and a slip stands for what was taken down.
+#![tactic(auto)]
+
 pub mod change_over;
 pub mod fabric;
 pub mod hub;

@@ -1,5 +1,5 @@
 -- Questions put in order, and the number of the first that is answered no.
-use Rattle.std.proofs.Common.{◌≡◌, ℕ, ◌+◌, Bool, true, false, cond, List, [], ◌∷◌, ◌++◌, refl}
+use Rattle.std.proofs.Common.{◌≡◌, ℕ, Bool, true, false, cond, List, [], ◌∷◌, ◌++◌, refl}
 use Rattle.std.specs.List.{AllByRecursion as All}
 use Rattle.reckoning.specs.Questions.{verdict}
 

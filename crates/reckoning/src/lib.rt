@@ -1,4 +1,6 @@
 //! The reckoning of a wavelength controller: the types that theory and code share, and the theorems over them.
+#![tactic(auto)]
+
 pub mod call;
 pub mod order;
 pub mod session;

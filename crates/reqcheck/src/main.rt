@@ -1,4 +1,6 @@
 //! Checks a request file from standard input, and prints the answer table for it.
+#![tactic(auto)]
+
 use text::check::check_text;
 use text::input::read_input;
 

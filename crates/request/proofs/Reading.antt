@@ -1,12 +1,12 @@
 -- The rest of a word, read behind digits whose number is held at 2 ^ 32 at most.
-use Rattle.std.proofs.Common.{◌≡◌, ℕ, ◌+◌, ◌-◌, ◌*◌, ◌^◌, ◌<◌, ◌≤◌, min, Bool, true, false, cond, ◌&&◌, ltb, ◌⊎◌, List, [], ◌∷◌, length, get_or, drop, Err, Result, sym, refl, ap, ◌∙◌, ⊎_elim, arith}
+use Rattle.std.proofs.Common.{◌≡◌, ℕ, ◌+◌, ◌-◌, ◌*◌, ◌^◌, ◌<◌, ◌≤◌, min, Bool, true, false, cond, ◌&&◌, ltb, List, [], ◌∷◌, length, get_or, drop, Err, Result, sym, refl, ap, ◌∙◌, ⊎_elim, arith}
 use Rattle.std.specs.Char.{is_ascii_digit}
 use Rattle.std.specs.Str.{all_ascii_digits}
 use Rattle.std.proofs.lemmas.List.{at_drop_more, at_drop_all}
 use Rattle.std.proofs.lemmas.Bool.{cond-false, and_left, cases_lt, le-ltb}
 use Rattle.request.specs.declared.fault.NumberFault.{NumberFault}
 use Rattle.request.specs.declared.fault.NumberFault.TheVariants.{NotDigits, TooLarge}
-use Rattle.request.specs.Numbers.{value_after, value, sized, read_number}
+use Rattle.request.specs.Numbers.{value_after, sized, read_number}
 
 abbrev pub finish : ℕ → ℕ → List ℕ → Result ℕ NumberFault
 finish w v bs = cond (all_ascii_digits bs) (sized w (value_after v bs)) (Err (NotDigits w))

@@ -10,7 +10,6 @@ use Rattle.request.specs.Refusals.{verb_name, fields, dash_places, First, here, 
 use Rattle.request.specs.Requests.{then, keep, verb_of, no_sites, no_limit, agree, is_dash, dash_at, dashes, act_of, words_act}
 use Rattle.request.specs.Words.{Five, split_spaces, just_words, in_order, five_words}
 use Rattle.request.specs.declared.act.Act.{Act}
-use Rattle.request.specs.declared.act.Act.TheVariants.{Add, Drop, Quote, Find}
 use Rattle.request.specs.declared.act.Request.{Request}
 use Rattle.request.specs.declared.act.Verb.{Verb}
 use Rattle.request.specs.declared.act.Verb.TheVariants as verb

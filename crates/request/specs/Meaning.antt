@@ -1,5 +1,5 @@
 -- The words in which the laws of the format are stated.
-use Rattle.std.specs.Prelude.{◌≡◌, ℕ, ◌+◌, ◌-◌, ◌^◌, ◌<◌, true, false, cond, List, [], ◌∷◌, ◌++◌, length, Ok, codes, decimal, ◌≢◌}
+use Rattle.std.specs.Prelude.{◌≡◌, ℕ, ◌+◌, ◌^◌, ◌<◌, true, false, cond, List, [], ◌∷◌, ◌++◌, length, Ok, codes, decimal, ◌≢◌}
 use Rattle.std.specs.List.{flat_map, AllByRecursion as All}
 use Rattle.std.specs.Str.{all_ascii_digits}
 use Rattle.request.specs.Lines.{Line}

@@ -1,5 +1,5 @@
 -- What a word reads as where a number belongs.
-use Rattle.std.specs.Prelude.{ℕ, ◌+◌, ◌-◌, ◌*◌, ◌^◌, cond, List, [], ◌∷◌, Ok, Err, Result, nat_lt}
+use Rattle.std.specs.Prelude.{ℕ, ◌+◌, ◌-◌, ◌*◌, cond, List, [], ◌∷◌, Ok, Err, Result, nat_lt}
 use Rattle.std.specs.Str.{all_ascii_digits}
 use Rattle.request.specs.declared.fault.NumberFault.{NumberFault}
 use Rattle.request.specs.declared.fault.NumberFault.TheVariants.{NotDigits, TooLarge}

@@ -1,4 +1,6 @@
 //! Requests, read from the text that tenants hand in.
+#![tactic(auto)]
+
 pub mod act;
 mod bytes;
 pub mod fault;

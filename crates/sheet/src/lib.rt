@@ -1,4 +1,6 @@
 //! Sheets: records of any one kind, in places handed over by the caller.
+#![tactic(auto)]
+
 pub mod extent;
 pub mod refusal;
 pub mod sheet;

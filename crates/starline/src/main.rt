@@ -1,4 +1,6 @@
 //! Serves a request file from standard input on a star of four sites, and prints the answers and the list of the sessions that then stand.
+#![tactic(auto)]
+
 use text::input::read_input;
 use text::star::star_text;
 

@@ -1,5 +1,5 @@
 -- A filter in place.
-use Rattle.std.proofs.Common.{◌≡◌, ◌<◌, length, get_or, refl, ◌∙◌, arith}
+use Rattle.std.proofs.Common.{◌<◌, length, get_or, refl, ◌∙◌, arith}
 use Rattle.book.specs.Moves.{nobody}
 use Rattle.book.proofs.Changes.{strike_none, strike_keeps, strike_drops, strike_all}
 use Rattle.book.proofs.enter.strike.Goals as goal

@@ -1,5 +1,5 @@
 -- Each table is the layout's, place by place, and out of range as well.
-use Rattle.std.proofs.Common.{◌≡◌, ℕ, ◌<◌, ◌≤◌, length, get_or, sym, refl, ap, ◌∙◌, subst, arith}
+use Rattle.std.proofs.Common.{◌≡◌, ℕ, ◌<◌, ◌≤◌, length, sym, ◌∙◌, arith}
 use Rattle.std.proofs.lemmas.List.{length-set}
 use Rattle.book.proofs.Tables.{table_more, table_all, parts_are}
 use Rattle.book.proofs.told.told.Goals as goal

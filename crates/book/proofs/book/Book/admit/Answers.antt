@@ -1,5 +1,5 @@
 -- What was prepared is carried out.
-use Rattle.std.proofs.Common.{◌≡◌, ℕ, ◌+◌, ◌-◌, ◌*◌, ◌≤◌, List, length, take, Ok, Err, Result, sym, refl, ap, ◌∙◌, subst, arith, rules}
+use Rattle.std.proofs.Common.{◌≡◌, ℕ, ◌-◌, ◌≤◌, length, take, Ok, Err, Result, sym, refl, ap, ◌∙◌, subst, arith, rules}
 use native.Mathlib.Nat.{sub-zero}
 use Rattle.std.proofs.lemmas.List.{length-reverse, length-take-le}
 use Rattle.reckoning.specs.Calls.{Reply, admit}

@@ -1,10 +1,9 @@
 -- The bearer is found, or none is.
-use Rattle.std.proofs.Common.{◌≡◌, true, false, [], ◌∷◌, sym, ap, ◌∙◌, arith}
-use Rattle.reckoning.specs.Lists.{first}
+use Rattle.std.proofs.Common.{sym, arith}
 use Rattle.reckoning.specs.Questions.{numbered}
-use Rattle.reckoning.specs.Standing.{bears, borne}
+use Rattle.reckoning.specs.Standing.{bears}
 use Rattle.book.specs.Books.{parts_in, standing_in}
-use Rattle.book.proofs.Asking.{led_on, found_asked, missed_asked}
+use Rattle.book.proofs.Asking.{found_asked, missed_asked}
 use Rattle.book.proofs.book.Book.ask_bearer.Goals as goal
 
 pub returns-in-Some : goal.returns-in-Some

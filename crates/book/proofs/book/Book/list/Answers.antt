@@ -1,5 +1,5 @@
 -- The rows are written where there is room for all.
-use Rattle.std.proofs.Common.{◌≡◌, ℕ, ◌≤◌, Bool, cond, leb, length, Result, sym, refl, ap, ◌∙◌, subst, ap₂, arith}
+use Rattle.std.proofs.Common.{◌≡◌, ℕ, ◌≤◌, cond, leb, length, Result, sym, refl, ap, ◌∙◌, subst, ap₂, arith}
 use Rattle.reckoning.specs.Calls.{Reply, listed, list}
 use Rattle.reckoning.specs.Questions.{Room}
 use Rattle.reckoning.specs.Runs.{rewritten}

@@ -1,5 +1,5 @@
 -- The session is found, its lightpath is told, and it goes.
-use Rattle.std.proofs.Common.{◌≡◌, ℕ, ◌≤◌, [], ◌∷◌, length, Result, sym, refl, ap, ◌∙◌, subst, arith}
+use Rattle.std.proofs.Common.{◌≤◌, [], length, Result, refl, ap, ◌∙◌, subst, arith}
 use Rattle.plant.specs.declared.slip.Lightpath.{Lightpath}
 use Rattle.reckoning.specs.declared.order.Order.{Order}
 use Rattle.reckoning.specs.declared.order.Kind.TheVariants.{Darken}

@@ -1,5 +1,5 @@
 -- One session more is read by its code.
-use Rattle.std.proofs.Common.{◌≡◌, ℕ, ◌<◌, map, length, take, refl, ap, ◌∙◌, arith}
+use Rattle.std.proofs.Common.{◌≡◌, ℕ, ◌<◌, map, length, take, ap, ◌∙◌, arith}
 use Rattle.std.proofs.lemmas.List.{length-set, take_all}
 use Rattle.book.specs.Books.{parts_in, standing_in}
 use Rattle.book.specs.Moves.{session_at}

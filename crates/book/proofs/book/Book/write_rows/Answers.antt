@@ -1,9 +1,9 @@
 -- One wavelength more is written behind the others.
-use Rattle.std.proofs.Common.{◌≡◌, ℕ, ◌≤◌, List, [], length, Some, sym, refl, ap, ◌∙◌, subst, arith}
+use Rattle.std.proofs.Common.{◌≡◌, ℕ, List, length, Some, sym, refl, ap, ◌∙◌, arith}
 use Rattle.std.specs.List.{range_with_len}
 use Rattle.reckoning.specs.declared.session.Session.{Session}
 use Rattle.reckoning.specs.Lists.{flat}
-use Rattle.reckoning.specs.Runs.{Page, rewritten}
+use Rattle.reckoning.specs.Runs.{rewritten}
 use Rattle.book.specs.Books.{parts_in, standing_in}
 use Rattle.book.specs.Calls.{rows_on}
 use Rattle.book.specs.Pages.{page_of}

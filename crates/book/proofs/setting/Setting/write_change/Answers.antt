@@ -1,5 +1,5 @@
 -- The last goes dark; a turn darkens one and lights the one behind it; the first is lit.
-use Rattle.std.proofs.Common.{◌≡◌, ◌-◌, ◌<◌, ◌≤◌, length, refl, ap, ◌∙◌, arith}
+use Rattle.std.proofs.Common.{◌<◌, ◌≤◌, length, refl, ap, ◌∙◌, arith}
 use Rattle.reckoning.specs.declared.order.Kind.TheVariants.{Light}
 use Rattle.reckoning.specs.Sheets.{order}
 use Rattle.book.specs.Standing.{parts_of}

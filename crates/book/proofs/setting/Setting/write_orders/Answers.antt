@@ -1,9 +1,7 @@
 -- The new session is lit behind the change-over.
-use Rattle.std.proofs.Common.{◌+◌, ◌≤◌, List, ◌++◌, reverse, length, drop, ap, ◌∙◌, arith}
+use Rattle.std.proofs.Common.{◌+◌, ◌≤◌, reverse, length, ◌∙◌, arith}
 use Rattle.std.proofs.lemmas.List.{length-reverse}
-use Rattle.reckoning.specs.declared.order.Order.{Order}
 use Rattle.reckoning.specs.declared.order.Kind.TheVariants.{Light}
-use Rattle.reckoning.specs.Runs.{Page}
 use Rattle.reckoning.specs.Sheets.{order, chain_orders}
 use Rattle.reckoning.proofs.Admissions.{chain_length}
 use Rattle.book.specs.Standing.{parts_of}

@@ -1,5 +1,5 @@
 -- The book has the parts as told, and no session; a dark plant carries none.
-use Rattle.std.proofs.Common.{◌≡◌, sym, refl, subst}
+use Rattle.std.proofs.Common.{sym, refl, subst}
 use Rattle.reckoning.specs.Parts.{Parts}
 use Rattle.reckoning.specs.Runs.{Start}
 use Rattle.reckoning.proofs.Serving.{start_made}

@@ -1,5 +1,5 @@
 -- One call more is answered; at the end the law of runs holds.
-use Rattle.std.proofs.Common.{◌≡◌, ◌<◌, ◌≤◌, length, get_or, vec_items, refl, ◌∙◌, arith}
+use Rattle.std.proofs.Common.{get_or, vec_items, refl, ◌∙◌, arith}
 use Rattle.std.proofs.lemmas.Result.{MatchResult-from_err}
 use Rattle.reckoning.specs.declared.call.Call.TheVariants.{Admit}
 use Rattle.book.specs.Books.{parts_in}
