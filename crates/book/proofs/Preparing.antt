@@ -1,6 +1,6 @@
 -- What the questions of an admission give once they are answered yes, and the reply on each way.
 use Rattle.std.proofs.Common.{◌≡◌, ℕ, zero, suc, ◌-◌, ◌*◌, ◌<◌, ◌≤◌, Bool, true, cond, eqb, leb, List, [], ◌∷◌, ◌++◌, length, sym, ap, ◌∙◌, subst, arith}
-use Rattle.std.specs.List.{AllByRecursion as All}
+use Rattle.std.specs.List.{AllByRecursion}
 use Rattle.std.proofs.lemmas.Bool.{and_parts, eqb-true, ltb-true, leb-true, le-leb, lt-leb, ne_eqb}
 use Rattle.reckoning.specs.declared.session.Session.{Session}
 use Rattle.reckoning.specs.Calls.{Reply, refused, unchanged, judged, admission, admit}
@@ -25,7 +25,7 @@ module _ (L : Parts) (room : Room) (ss : List Session) (walk : List ℕ) (n s d 
   asked = admit_before L room ss walk n s d ++ loads L ss s d
 
   module _ (e : verdict (admit_before L room ss walk n s d ++ loads L ss s d) ≡ 0) where
-    all : All (λ (x : Question). x.0 ≡ true) (admit_before L room ss walk n s d ++ loads L ss s d)
+    all : AllByRecursion (λ (x : Question). x.0 ≡ true) (admit_before L room ss walk n s d ++ loads L ss s d)
     all = passed (admit_before L room ss walk n s d ++ loads L ss s d) (omega arith) e
 
     pub in_sites : (s < L.sites) × (d < L.sites)

@@ -1,6 +1,6 @@
 -- What the questions of a quote give once they are answered yes, and the reply on each way.
 use Rattle.std.proofs.Common.{◌≡◌, ℕ, ◌+◌, ◌<◌, ◌≤◌, true, List, length, sym, arith}
-use Rattle.std.specs.List.{AllByRecursion as All}
+use Rattle.std.specs.List.{AllByRecursion}
 use Rattle.std.proofs.lemmas.Bool.{and_parts, eqb-true, ltb-true, leb-true}
 use Rattle.reckoning.specs.declared.session.Session.{Session}
 use Rattle.reckoning.specs.Calls.{refused, unchanged, quoted, quote}
@@ -21,7 +21,7 @@ module _ (L : Parts) (ss : List Session) (walk : List ℕ) (n s d : ℕ) where
   quote_refused x h = judged_no ss walk (verdict (quote_questions L ss walk n s d)) (unchanged ss (walked L.group (planned L ss s d) walk) (quoted (planned L ss s d).gives (length (planned L ss s d).moving))) x h
 
   module _ (e : verdict (quote_questions L ss walk n s d) ≡ 0) where
-    all : All (λ (x : Question). x.0 ≡ true) (quote_questions L ss walk n s d)
+    all : AllByRecursion (λ (x : Question). x.0 ≡ true) (quote_questions L ss walk n s d)
     all = passed (quote_questions L ss walk n s d) (omega arith) e
 
     pub quote_sites : (s < L.sites) × (d < L.sites)

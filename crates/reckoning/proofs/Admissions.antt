@@ -1,6 +1,6 @@
 -- What an admission's questions say, and what its acceptance keeps, moves and writes.
 use Rattle.std.proofs.Common.{◌≡◌, ℕ, zero, suc, ◌+◌, ◌*◌, ◌<◌, ◌≤◌, Bool, true, false, cond, not, eqb, ◌⊎◌, List, [], ◌∷◌, map, reverse, length, take, count_by, sym, refl, ap, ◌∙◌, subst, subst₂, inl, inr, arith}
-use Rattle.std.specs.List.{AllByRecursion as All}
+use Rattle.std.specs.List.{AllByRecursion}
 use Rattle.std.proofs.lemmas.Bool.{both_ways, and_parts, not-true, ltb-true, leb-false, eqb-true, eq-eqb, ne_eqb}
 use Rattle.std.proofs.lemmas.List.{length-append, length-reverse}
 use Rattle.std.proofs.ByRecursion.{All-take, All-drop}
@@ -47,7 +47,7 @@ pub record Asked (L : Parts) (ss : List Session) (n s d : ℕ) : Type 0 where
   pub ends : Ends L.sites s d
   pub unborne : (x : Session) → In x ss → n ≡ x.number → ⊥
 
-pub asked : (L : Parts) (room : Room) (ss : List Session) (walk : List ℕ) (n s d : ℕ) → All (λ x. x.0 ≡ true) (admit_before L room ss walk n s d) → Asked L ss n s d
+pub asked : (L : Parts) (room : Room) (ss : List Session) (walk : List ℕ) (n s d : ℕ) → AllByRecursion (λ x. x.0 ≡ true) (admit_before L room ss walk n s d) → Asked L ss n s d
 asked L room ss walk n s d h =
     let q = h.1.1 in
     let sites = and_parts _ _ q.1.0 in

@@ -1,6 +1,6 @@
 -- An admission is refused for want of a wavelength exactly when no table exists for the sessions with the new one.
 use Rattle.std.proofs.Common.{◌≡◌, ℕ, ◌<◌, ◌≤◌, Bool, true, false, cond, eqb, ltb, ◌⊎◌, List, ◌∷◌, take, drop, sym, refl, ap, ◌∙◌, inl, inr, arith}
-use Rattle.std.specs.List.{AllByRecursion as All}
+use Rattle.std.specs.List.{AllByRecursion}
 use Rattle.std.proofs.lemmas.Bool.{ltb-true, ltb-false, eq-eqb, ne_eqb}
 use Rattle.std.proofs.ByRecursion.{All-take}
 use Rattle.network.specs.Network.{Ends}
@@ -109,7 +109,7 @@ module _ (L : Parts) (low_group : (s : ℕ) → s < L.sites → L.group s < L.gr
       go (ltb (up_load L.group ss L.wavelengths (L.group s)) L.wavelengths) refl
       (ltb (down_load L.group ss L.wavelengths (L.group d)) L.wavelengths) refl
     where
-      ten : All (λ x. x.0 ≡ true) (take 10 qs)
+      ten : AllByRecursion (λ x. x.0 ≡ true) (take 10 qs)
       ten = passed (take 10 qs) (omega arith) e
 
       go : (u : Bool) → ltb (up_load L.group ss L.wavelengths (L.group s)) L.wavelengths ≡ u → (v : Bool) → ltb (down_load L.group ss L.wavelengths (L.group d)) L.wavelengths ≡ v → Blocked (admit L room ss walk n s d limit).answer

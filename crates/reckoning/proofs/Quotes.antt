@@ -1,6 +1,6 @@
 -- A quote and the admission that it asks about answer alike.
 use Rattle.std.proofs.Common.{◌≡◌, ℕ, zero, suc, ◌+◌, ◌-◌, ◌*◌, ◌<◌, ◌≤◌, true, List, length, sym, refl, subst, arith}
-use Rattle.std.specs.List.{AllByRecursion as All}
+use Rattle.std.specs.List.{AllByRecursion}
 use Rattle.std.proofs.lemmas.Bool.{le-leb}
 use Rattle.reckoning.specs.declared.session.Session.{Session}
 use Rattle.reckoning.specs.Parts.{Parts}
@@ -13,7 +13,7 @@ use Rattle.reckoning.proofs.Verdicts.{passed, all_passed}
 use Rattle.reckoning.proofs.Admissions.{answered}
 
 abbrev Hold : List Question → Type 0
-Hold qs = All (λ x. x.0 ≡ true) qs
+Hold qs = AllByRecursion (λ x. x.0 ≡ true) qs
 
 module _ (L : Parts) (low_group : (s : ℕ) → s < L.sites → L.group s < L.groups) (room : Room) (ss : List Session) (k : Sound L ss) (walk : List ℕ) (n s d limit : ℕ) where
   abbrev P : Plan

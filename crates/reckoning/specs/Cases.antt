@@ -1,6 +1,6 @@
 -- Worked cases: calls on a new star or splitter, each answer, and what the last call leaves in sheets and walk list.
 use Rattle.std.specs.Prelude.{◌≡◌, ℕ, ◌-◌, ◌*◌, List, [], ◌∷◌, map, replicate, Some, None, Option}
-use Rattle.std.specs.List.{AllByRecursion as All}
+use Rattle.std.specs.List.{AllByRecursion}
 use Rattle.network.specs.Network.{star_network, splitter_network}
 use Rattle.plant.specs.Switch.{dark_switch}
 use Rattle.reckoning.specs.declared.session.Session.{Session}
@@ -96,7 +96,7 @@ cases =
     ∷ []
 
 abbrev pub Worked : Type 0
-Worked = All Works cases
+Worked = AllByRecursion Works cases
 
 -- ---- longer cases
 
@@ -126,4 +126,4 @@ long_cases =
     ∷ []
 
 abbrev pub WorkedLong : Type 0
-WorkedLong = All WorksLong long_cases
+WorkedLong = AllByRecursion WorksLong long_cases

@@ -1,6 +1,6 @@
 -- Lines and words joined again.
 use Rattle.std.proofs.Common.{◌≡◌, ℕ, ◌<◌, Bool, true, false, cond, eqb, List, [], ◌∷◌, ◌++◌, length, Ok, Err, Result, sym, refl, ap, ◌∙◌, subst, arith}
-use Rattle.std.specs.List.{flat_map, AllByRecursion as All}
+use Rattle.std.specs.List.{flat_map, AllByRecursion}
 use Rattle.std.proofs.lemmas.List.{append_assoc, append-nil}
 use Rattle.std.proofs.lemmas.Bool.{false≢true, cond-false, eqb-true, eqb-false, ne_eqb}
 use Rattle.request.specs.Meaning.{Free, line_bytes, Lined, spaced, Worded}
@@ -104,15 +104,15 @@ split_rejoined (b ∷ bs) = go (eqb b 32) refl (split_rejoined bs)
     go true e ih = empty_rejoined (split_spaces bs) (split_some bs) ∙ ap (λ (x : List ℕ). 32 ∷ x) ih ∙ ap (λ (x : ℕ). x ∷ bs) (sym (eqb-true b 32 e))
     go false e ih = grow_rejoined b (split_spaces bs) ∙ ap (λ (x : List ℕ). b ∷ x) ih
 
-grow_free : (b : ℕ) (ps : List (List ℕ)) → (b ≡ 32 → ⊥) → All (Free 32) ps → All (Free 32) (grow b ps)
+grow_free : (b : ℕ) (ps : List (List ℕ)) → (b ≡ 32 → ⊥) → AllByRecursion (Free 32) ps → AllByRecursion (Free 32) (grow b ps)
 grow_free b [] ne h = ((ne, tt), tt)
 grow_free b (w ∷ ws) ne h = ((ne, h.0), h.1)
 
-split_free : (bs : List ℕ) → All (Free 32) (split_spaces bs)
+split_free : (bs : List ℕ) → AllByRecursion (Free 32) (split_spaces bs)
 split_free [] = (tt, tt)
 split_free (b ∷ bs) = go (eqb b 32) refl (split_free bs)
   where
-    go : (t : Bool) → eqb b 32 ≡ t → All (Free 32) (split_spaces bs) → All (Free 32) (cond t ([] ∷ split_spaces bs) (grow b (split_spaces bs)))
+    go : (t : Bool) → eqb b 32 ≡ t → AllByRecursion (Free 32) (split_spaces bs) → AllByRecursion (Free 32) (cond t ([] ∷ split_spaces bs) (grow b (split_spaces bs)))
     go true e ih = (tt, ih)
     go false e ih = grow_free b (split_spaces bs) (eqb-false b 32 e) ih
 
@@ -148,7 +148,7 @@ just_pieces ((a0 ∷ a) ∷ (s0 ∷ s) ∷ (f0 ∷ f) ∷ (t0 ∷ t) ∷ [] ∷ 
 just_pieces ((a0 ∷ a) ∷ (s0 ∷ s) ∷ (f0 ∷ f) ∷ (t0 ∷ t) ∷ (l0 ∷ l) ∷ []) h = pieces _ _ _ _ _ (omega arith) (omega arith) (omega arith) (omega arith) (omega arith)
 just_pieces ((a0 ∷ a) ∷ (s0 ∷ s) ∷ (f0 ∷ f) ∷ (t0 ∷ t) ∷ (l0 ∷ l) ∷ p ∷ ps) h = absurd (false≢true h)
 
-pieces_joined : (ps : List (List ℕ)) (w : Five) → Pieces ps → All (Free 32) ps → in_order ps ≡ w → (spaced w ≡ rejoined ps) × Worded w
+pieces_joined : (ps : List (List ℕ)) (w : Five) → Pieces ps → AllByRecursion (Free 32) ps → in_order ps ≡ w → (spaced w ≡ rejoined ps) × Worded w
 pieces_joined _ w (pieces a s f t l ha hs hf ht hl) h e =
     let P : Five → Type 0 = λ v. (spaced v ≡ rejoined (a ∷ s ∷ f ∷ t ∷ l ∷ [])) × Worded v in
     subst P e (refl, ((ha, h.0), (hs, h.1.0), (hf, h.1.1.0), (ht, h.1.1.1.0), (hl, h.1.1.1.1.0)))

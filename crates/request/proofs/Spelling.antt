@@ -1,6 +1,6 @@
 -- Words that ask for an act read as that act, and no others do.
 use Rattle.std.proofs.Common.{◌≡◌, ℕ, ◌+◌, ◌<◌, ◌≤◌, Bool, true, false, cond, not, ◌&&◌, eqb, leb, List, [], ◌∷◌, ◌++◌, length, Ok, Err, codes, Result, sym, refl, ap, ◌∙◌, subst, arith}
-use Rattle.std.specs.List.{flat_map, AllByRecursion as All}
+use Rattle.std.specs.List.{flat_map, AllByRecursion}
 use Rattle.std.proofs.ByRecursion.{All-append}
 use Rattle.std.proofs.lemmas.List.{append_assoc}
 use Rattle.std.proofs.lemmas.Bool.{and_parts, not-true, eqb-false, cond-true, le-leb}
@@ -117,7 +117,7 @@ plain_spells (Find s) h = (refl, value_plain s h, refl, refl, refl)
 abbrev lined : Act → List ℕ
 lined a = spaced (plain a) ++ 10 ∷ []
 
-acts_read : (n : ℕ) (acts : List Act) → All Small acts → read_lines n (lines_of (flat_map lined acts)) ≡ requests n acts
+acts_read : (n : ℕ) (acts : List Act) → AllByRecursion Small acts → read_lines n (lines_of (flat_map lined acts)) ≡ requests n acts
 acts_read n [] h = refl
 acts_read n (a ∷ acts) h =
     let s = plain_spells a h.0 in
@@ -126,7 +126,7 @@ acts_read n (a ∷ acts) h =
     ∙ ap (λ (r : Result Request LineFault). record { line = n; outcome = then run.Line r (λ q. Ok q) } ∷ read_lines (n + 1) (lines_of (flat_map lined acts))) (spells_read n (plain a) a s)
     ∙ ap (λ (es : List Entry). record { line = n; outcome = Ok (record { line = n; act = a }) } ∷ es) (acts_read (n + 1) acts h.1)
 
-pub reads_back : (acts : List Act) → All Small acts → length (written acts) ≤ 65536 → read_text (written acts) ≡ requests 2 acts
+pub reads_back : (acts : List Act) → AllByRecursion Small acts → length (written acts) ≤ 65536 → read_text (written acts) ≡ requests 2 acts
 reads_back acts h small =
     ap answered
     (cond-true (leb (length (written acts)) 65536) (behind_names (lines_of (written acts))) (Err run.TooLong) (le-leb (length (written acts)) 65536 small)

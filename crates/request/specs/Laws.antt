@@ -1,6 +1,6 @@
 -- What the format means, apart from how it is read.
 use Rattle.std.specs.Prelude.{◌≡◌, ℕ, ◌+◌, ◌-◌, ◌*◌, ◌^◌, ◌<◌, ◌≤◌, List, [], ◌∷◌, ◌++◌, length, Ok, Err, decimal}
-use Rattle.std.specs.List.{flat_map, AllByRecursion as All}
+use Rattle.std.specs.List.{flat_map, AllByRecursion}
 use Rattle.request.specs.Lines.{Line, lines_of, read_line, read_text}
 use Rattle.request.specs.Numbers.{value, read_number}
 use Rattle.request.specs.Words.{Five, split_spaces, five_words}
@@ -12,7 +12,7 @@ use Rattle.request.specs.declared.fault.LineFault.{LineFault}
 
 pub record FormatLaws : Type 0 where
   -- requests written out read back as themselves, each with the number of its line
-  pub reads_back : (acts : List Act) → All Small acts → length (written acts) ≤ 65536 → read_text (written acts) ≡ requests 2 acts
+  pub reads_back : (acts : List Act) → AllByRecursion Small acts → length (written acts) ≤ 65536 → read_text (written acts) ≡ requests 2 acts
   -- the lines of a text, joined again, are the text, and no other lines are
   pub lines_join : (bs : List ℕ) → flat_map line_bytes (lines_of bs) ≡ bs
   pub lines_lined : (bs : List ℕ) → Lined (lines_of bs)

@@ -1,6 +1,6 @@
 -- The words in which the laws of the format are stated.
 use Rattle.std.specs.Prelude.{◌≡◌, ℕ, ◌+◌, ◌^◌, ◌<◌, true, false, cond, List, [], ◌∷◌, ◌++◌, length, Ok, codes, decimal, ◌≢◌}
-use Rattle.std.specs.List.{flat_map, AllByRecursion as All}
+use Rattle.std.specs.List.{flat_map, AllByRecursion}
 use Rattle.std.specs.Str.{all_ascii_digits}
 use Rattle.request.specs.Lines.{Line}
 use Rattle.request.specs.Numbers.{value}
@@ -12,7 +12,7 @@ use Rattle.request.specs.declared.act.Request.{Request}
 
 -- no byte of bs is m
 abbrev pub Free : ℕ → List ℕ → Type 0
-Free m bs = All (λ b. b ≢ m) bs
+Free m bs = AllByRecursion (λ b. b ≢ m) bs
 
 -- the bytes of a line, with its byte 10 if it has one
 abbrev pub line_bytes : Line → List ℕ
