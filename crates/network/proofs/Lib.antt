@@ -1,2 +1,3 @@
 -- The lemmas, by subject.
 pub mod Laws
+pub mod Ranges

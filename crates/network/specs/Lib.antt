@@ -1,8 +1,9 @@
 -- The definitions that the contracts cite.
 pub mod Checks
 pub mod Network
-pub mod Splitters
-pub mod Verdicts
+-- The proofs of the laws of layouts, which an `impl` can cite from here alone.
 pub mod Ranges
+pub mod Verdicts
 pub mod Lit
 pub mod Stars
+pub mod Splitters

@@ -1,21 +1,20 @@
 -- Every run of calls keeps the laws.
-use Rattle.std.proofs.Common.{◌≡◌, ℕ, ◌+◌, ◌<◌, cond, List, [], ◌∷◌, length, refl, inl, inr, arith}
+use Rattle.std.proofs.Common.{◌≡◌, ℕ, ◌+◌, ◌<◌, cond, List, [], ◌∷◌, length, refl, arith}
 use Rattle.std.proofs.lemmas.List.Sums.{sum_by-cons}
 use Rattle.network.specs.Network.{Network, Grouped, Separate}
-use Rattle.network.proofs.Laws.{one_group}
 use Rattle.plant.specs.Switch.{Switch}
 use Rattle.reckoning.specs.declared.session.Session.{Session}
 use Rattle.reckoning.specs.declared.call.Call.{Call}
 use Rattle.reckoning.specs.Parts.{Parts, parts_told}
 use Rattle.reckoning.specs.Questions.{Room}
 use Rattle.reckoning.specs.Calls.{Reply, is_admitted, is_released, reply, replies, standing_after, admissions, releases}
-use Rattle.reckoning.specs.Laws.{Clear, Sound, Meet, Safe, AlwaysSafe}
-use Rattle.reckoning.proofs.Pigeon.{pairwise_weaker}
+use Rattle.reckoning.specs.Laws.{Sound, Safe, AlwaysSafe}
 use Rattle.reckoning.proofs.Admissions.{moves, limit_serves}
-use Rattle.reckoning.proofs.Blocking.{Shared, blocked_then, blocked_when}
+use Rattle.reckoning.proofs.Blocking.{blocked_then, blocked_when}
 use Rattle.reckoning.proofs.Quotes.{quoted_if, admitted_if}
 use Rattle.reckoning.proofs.Rows.{row_of, rows_length}
 use Rattle.reckoning.proofs.Runs.{sound_none, sound_reply, reply_serves, reply_tally, lit_count}
+use Rattle.reckoning.proofs.Steps.{Behind, behind, unblinded}
 
 module _ (L : Parts) (low_group : (s : ℕ) → s < L.sites → L.group s < L.groups) (room : Room) where
   pub sound_run : (ss : List Session) → Sound L ss → (walk : List ℕ) (cs : List Call) → Sound L (standing_after ss (replies L room ss walk cs))
@@ -40,20 +39,17 @@ module _ (L : Parts) (low_group : (s : ℕ) → s < L.sites → L.group s < L.gr
 safe : (n : Network) (p : Switch) → Grouped n → Separate n → (ss : List Session) → Sound (parts_told n p) ss → Safe n (parts_told n p) ss
 safe n p grouped separate ss k =
     let L : Parts = parts_told n p in
-    let shared : Shared L n.lights = one_group n separate in
+    let f : Behind n L = behind n grouped separate L (p, refl) in
     record {
       sound = k;
-      no_clash =
-          pairwise_weaker (Clear L.group) (λ s t. Meet n.lights s t → s.wavelength ≡ t.wavelength → ⊥) ss
-          (λ s t i j clear m e. elim (shared s.source s.destination t.source t.destination m.0 m.1 m.2) [ inl d ↦ (clear e).0 d | inr d ↦ (clear e).1 d ])
-          k.clear;
+      no_clash = unblinded n L f ss k;
       lit_count = lit_count L ss k;
       rows_whole = (rows_length L ss k, row_of L ss k);
       orders_serve = λ room walk c t h. reply_serves L grouped room ss k walk c t h;
       admits = λ room walk number source destination limit.
           record {
             blocked_then = blocked_then L grouped n.lights room ss k walk number source destination limit;
-            blocked_when = blocked_when L grouped n.lights room ss k walk number source destination limit shared;
+            blocked_when = blocked_when L grouped n.lights room ss k walk number source destination limit f.shared;
             moves = λ w m e.
                 let r = moves L grouped room ss k walk number source destination limit w m e in
                 record { told = r.told; few = r.few; orders = r.orders };

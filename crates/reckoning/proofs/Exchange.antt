@@ -153,7 +153,7 @@ module _ (g : ℕ → ℕ) (W G : ℕ) (ss : List Session) (sound : Colouring g 
   -- sessions on p leave groups other than a, and sessions on q enter groups other than b: at most 2 G - 2 of them
   pub counted : (xs : List Session) → Distinct xs → ((x : Session) → In x xs → Standing ss p q x) → length xs + 2 ≤ 2 * G
   counted xs d h =
-      let l = pigeon_below (2 * G) (a ∷ ((G + b) ∷ map (place g G p) xs)) (first_apart, (second_apart, rest_apart)) below in
+      let l = pigeon_below (2 * G) (a ∷ ((G + b) ∷ map (place g G p) xs)) (first_apart, (not_b, rest_apart)) below in
       omega (arith, length-map xs (place g G p))
     where
       a_low : a < G
@@ -175,9 +175,6 @@ module _ (g : ℕ → ℕ) (W G : ℕ) (ss : List Session) (sound : Colouring g 
       first_apart : (y : ℕ) → In y ((G + b) ∷ map (place g G p) xs) → a ≡ y → ⊥
       first_apart y (inl d) e = omega (arith, a_low, d, e)
       first_apart y (inr i) e = not_a y i e
-
-      second_apart : (y : ℕ) → In y (map (place g G p) xs) → G + b ≡ y → ⊥
-      second_apart y i e = not_b y i e
 
       rest_apart : Distinct (map (place g G p) xs)
       rest_apart = pairwise_map (λ x y. x ≡ y → ⊥) (λ x y. x ≡ y → ⊥) (place g G p) xs d (λ x y i j n e. n (place_apart x y (h x i) (h y j) e))

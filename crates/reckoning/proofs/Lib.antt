@@ -16,11 +16,11 @@ pub mod Quotes
 pub mod Releases
 pub mod Rows
 pub mod Runs
-pub mod AlwaysSafe
 pub mod Ports
 pub mod ChangeOvers
 pub mod Steps
 pub mod LawOfRuns
+pub mod AlwaysSafe
 pub mod Serving
 pub mod Soundness
 pub mod Loads

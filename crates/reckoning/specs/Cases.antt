@@ -19,14 +19,21 @@ abbrev pub last_of : Reply → List Reply → Reply
 last_of r [] = r
 last_of r (x ∷ xs) = last_of x xs
 
--- just as much room as an admission asks for; 99 marks a place of the walk list that is not written
+-- just as much room as an admission asks for, and room for so many rows; 99 marks a place of the walk list that is not written
+abbrev pub run_with : ℕ → Parts → List Call → List Reply
+run_with room L calls = replies L (record { orders = 2 * L.plant_groups - 1; rows = room }) [] (replicate (2 * L.plant_groups - 2) 99) calls
+
+abbrev pub WorksWith : ℕ → Case → Type 0
+WorksWith room (case L calls answers orders rows walk) =
+    let last : Reply = last_of (unchanged [] [] (refused 0)) (run_with room L calls) in
+    (map (λ r. r.answer) (run_with room L calls) ≡ answers) × (last.orders ≡ orders) × (last.rows ≡ rows) × (last.walk ≡ walk)
+
+-- with room for four rows
 abbrev pub run : Parts → List Call → List Reply
-run L calls = replies L (record { orders = 2 * L.plant_groups - 1; rows = 4 }) [] (replicate (2 * L.plant_groups - 2) 99) calls
+run = run_with 4
 
 abbrev pub Works : Case → Type 0
-Works (case L calls answers orders rows walk) =
-    let last : Reply = last_of (unchanged [] [] (refused 0)) (run L calls) in
-    (map (λ r. r.answer) (run L calls) ≡ answers) × (last.orders ≡ orders) × (last.rows ≡ rows) × (last.walk ≡ walk)
+Works = WorksWith 4
 
 -- wavelength, source group, destination group and session
 abbrev pub dark : ℕ → ℕ → ℕ → ℕ → Order
@@ -98,16 +105,7 @@ cases =
 abbrev pub Worked : Type 0
 Worked = AllByRecursion Works cases
 
--- ---- longer cases
-
--- with ten rows
-abbrev pub long_run : Parts → List Call → List Reply
-long_run L calls = replies L (record { orders = 2 * L.plant_groups - 1; rows = 10 }) [] (replicate (2 * L.plant_groups - 2) 99) calls
-
-abbrev pub WorksLong : Case → Type 0
-WorksLong (case L calls answers orders rows walk) =
-    let last : Reply = last_of (unchanged [] [] (refused 0)) (long_run L calls) in
-    (map (λ r. r.answer) (long_run L calls) ≡ answers) × (last.orders ≡ orders) × (last.rows ≡ rows) × (last.walk ≡ walk)
+-- ---- longer cases, with room for ten rows
 
 abbrev pub long_cases : List Case
 long_cases =
@@ -126,4 +124,4 @@ long_cases =
     ∷ []
 
 abbrev pub WorkedLong : Type 0
-WorkedLong = AllByRecursion WorksLong long_cases
+WorkedLong = AllByRecursion (WorksWith 10) long_cases

@@ -1,6 +1,6 @@
 -- Each turn of the loop, and its end, keep what is left answering for the whole list.
 use Rattle.std.proofs.Common.{true, false}
-use Rattle.network.specs.Ranges.{one_more, all_seen}
+use Rattle.network.proofs.Ranges.{one_more, all_seen}
 use Rattle.network.proofs.check.all_between.Goals as goal
 
 pub returns-then-not-between : goal.returns-then-not-between
