@@ -1,5 +1,5 @@
 -- After a run that ends in a list, the sheet shows the rows of the last reply; so what is written is the text's answer.
-use Rattle.std.proofs.Common.{◌≡◌, ℕ, zero, suc, ◌-◌, List, [], ◌∷◌, ◌++◌, length, get_or, drop, Some, None, sym, refl, ap, ◌∙◌, subst, arith}
+use Rattle.std.proofs.Common.{◌≡◌, ℕ, zero, suc, ◌-◌, List, [], ◌∷◌, ◌++◌, length, get_or, drop, Some, None, Ok, Err, Result, OnErr, inr, sym, refl, ap, ◌∙◌, subst, arith}
 use Rattle.std.proofs.lemmas.List.{get_or_push, length_push, take_at}
 use Rattle.network.specs.declared.layout.Layout.{Ghosts as LayoutGhosts}
 use Rattle.request.specs.Lines.{read_text}
@@ -18,7 +18,7 @@ use Rattle.controller.specs.declared.controller.Controller.{Controller}
 use Rattle.controller.specs.Service.{Served}
 use Rattle.text.specs.Asked.{asked, calls_of}
 use Rattle.text.specs.Lists.{rows_written, last_rows, is_listed, ends_listed, rows_shown}
-use Rattle.text.specs.Served.{output_bytes, ServedText}
+use Rattle.text.specs.Served.{output_bytes, ServedText, NothingOrAll}
 
 -- ---- the last reply
 
@@ -80,3 +80,9 @@ text_served E c text es calls answers m m' output r k s o =
           ∙ ap (λ (xs : List Answer). output_bytes (read_text text) xs (last_rows ys)) told.replied.0;
       served = (answers, told);
     }
+
+-- where all of the text's calls were served, that is so whether or not what they answered was written
+pub all_served_then : {N P X Y : Type 0} (E : LayoutGhosts N) (c : Controller N P) (text : List ℕ) (es : List Entry) (calls : List Call) (answers : List Answer) (m m' : Moment) (r : Result X Y) →
+    es ≡ read_text text → calls ≡ calls_of es → Served E c calls answers m m' → OnErr r (NothingOrAll E c text m m')
+all_served_then E c text es calls answers m m' (Ok x) r k s = tt
+all_served_then E c text es calls answers m m' (Err e) r k s = inr (answers, subst (λ (cs : List Call). Served E c cs answers m m') (k ∙ ap calls_of r) s)

@@ -1,5 +1,5 @@
 -- What a text is answered with, and that the law of runs holds of it.
-use Rattle.std.specs.Prelude.{◌≡◌, ℕ, List, ◌++◌, map}
+use Rattle.std.specs.Prelude.{◌≡◌, ℕ, ◌⊎◌, List, ◌++◌, map}
 use Rattle.network.specs.declared.layout.Layout.{Ghosts as LayoutGhosts}
 use Rattle.reckoning.specs.declared.session.Session.{Session}
 use Rattle.reckoning.specs.Calls.{Answer, Reply, replies}
@@ -36,3 +36,7 @@ pub record ServedText {N P : Type 0} (E : LayoutGhosts N) (c : Controller N P) (
   pub bytes : output ≡ text_bytes (parts_in c.book) (room_in m) m.standing m.walk text
   -- its calls are served as one list, which keeps the law of runs
   pub served : (answers : List Answer) × Served E c (calls_of (read_text text)) answers m m'
+
+-- where memory is not found: nothing was served, or all of the text's calls were
+abbrev pub NothingOrAll : {N P : Type 0} → LayoutGhosts N → Controller N P → List ℕ → Moment → Moment → Type 0
+NothingOrAll E c text m m' = (m' ≡ m) ⊎ ((answers : List Answer) × Served E c (calls_of (read_text text)) answers m m')

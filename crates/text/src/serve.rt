@@ -1,9 +1,9 @@
 //! A text is read, its calls are served, and the answers are written.
 ghost use Rattle.book.specs.Pages.{page_of};
 ghost use Rattle.controller.specs.Service.{Same, answer_of, moment};
-ghost use Rattle.std.specs.Prelude.{◌≡◌, map, IfOk, string_bytes};
+ghost use Rattle.std.specs.Prelude.{◌≡◌, map, IfOk, OnErr, string_bytes};
 ghost use Rattle.text.specs.Lists.{rows_shown};
-ghost use Rattle.text.specs.Served.{ServedText, output_bytes};
+ghost use Rattle.text.specs.Served.{NothingOrAll, ServedText, output_bytes};
 
 use crate::answers::table;
 use crate::calls::calls_of;
@@ -37,7 +37,6 @@ fn write_answers(
 }
 
 /// Serves the calls of a text as one list, and writes the answer table and the list of the sessions that then stand.
-/// Memory may fail before the calls are served or after it.
 pub fn serve_text<L: Layout + Drop, P: Plant + Drop>(
     heap: Global,
     controller: &mut Controller<L, P>,
@@ -50,6 +49,9 @@ pub fn serve_text<L: Layout + Drop, P: Plant + Drop>(
     ensures row_place { rows.new.places.ghost_name ≡ rows.old.places.ghost_name }
     ensures same { Same P.Plant controller.old controller.new }
     ensures served { IfOk result (λ s. ServedText L.Layout controller.old text.now (string_bytes s) (moment P.Plant controller.old (page_of orders.old) (page_of rows.old) walk.old) (moment P.Plant controller.new (page_of orders.new) (page_of rows.new) walk.new)) }
+
+    // Memory may fail before the calls are served or after it.
+    ensures failed { OnErr result (NothingOrAll L.Layout controller.old text.now (moment P.Plant controller.old (page_of orders.old) (page_of rows.old) walk.old) (moment P.Plant controller.new (page_of orders.new) (page_of rows.new) walk.new)) }
 {
     let entries = read_text(heap, text)?;
     let calls = calls_of(heap, entries.as_slice())?;
