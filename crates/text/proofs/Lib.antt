@@ -1,5 +1,6 @@
 mod Answering
 mod Calling
 mod Listing
+mod Reading
 mod Serving
 mod Starting
