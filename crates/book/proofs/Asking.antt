@@ -1,5 +1,6 @@
 -- Questions put in parts: a part that refuses answers for the whole, and one that passes leads on to the next.
 use Rattle.std.proofs.Common.{◌≡◌, ℕ, ◌≤◌, Bool, true, false, cond, leb, List, [], ◌∷◌, ◌++◌, is_some, IsErrAnd, Some, None, Ok, Err, Option, Result, sym, refl, ap, ◌∙◌, inl, inr, arith}
+use Rattle.std.specs.Option.{ok_or}
 use Rattle.std.proofs.lemmas.Result.{err_from_is_err_and}
 use Rattle.std.proofs.lemmas.Bool.{cases_Bool, leb-true}
 use Rattle.reckoning.specs.Lists.{first, any}
@@ -65,8 +66,11 @@ any_first p (x ∷ xs) = go (p x) (any_first p xs)
 
 -- the question whether a session bears the number, behind others that passed
 module _ {A : Type 0} (qs : List Question) (p : A → Bool) (xs : List A) where
-  pub found_asked : (x : A) → Not 0 qs → 0 ≡ verdict qs → first p xs ≡ Some x → 0 ≡ verdict (qs ++ ((any p xs, 15) ∷ []))
-  found_asked x n h e = ap (λ (b : Bool). cond b 0 15) (sym (sym (any_first p xs) ∙ ap (λ (o : Option A). is_some o) e)) ∙ led_on qs ((any p xs, 15) ∷ []) n h
+  by_some : (o : Option A) → answer_number (ok_or o NotStanding) ≡ cond (is_some o) 0 15
+  by_some None = refl
+  by_some (Some x) = refl
 
-  pub missed_asked : Not 0 qs → 0 ≡ verdict qs → first p xs ≡ None → 15 ≡ verdict (qs ++ ((any p xs, 15) ∷ []))
-  missed_asked n h e = ap (λ (b : Bool). cond b 0 15) (sym (sym (any_first p xs) ∙ ap (λ (o : Option A). is_some o) e)) ∙ led_on qs ((any p xs, 15) ∷ []) n h
+  pub bearer_asked : (o : Option A) (r : Result A CallRefusal) → Not 0 qs → 0 ≡ verdict qs → o ≡ first p xs → r ≡ ok_or o NotStanding → answer_number r ≡ verdict (qs ++ ((any p xs, 15) ∷ []))
+  bearer_asked o r n h e d =
+      ap (λ (x : Result A CallRefusal). answer_number x) d
+      ∙ (by_some o ∙ (ap (λ (b : Bool). cond b 0 15) (ap (λ (x : Option A). is_some x) e ∙ any_first p xs) ∙ led_on qs ((any p xs, 15) ∷ []) n h))

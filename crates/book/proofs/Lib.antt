@@ -3,7 +3,7 @@ mod Tables
 mod Lit
 mod Walking
 mod Choosing
-mod Changes
+mod Free
 mod Ordering
 pub mod Asking
 mod Preparing

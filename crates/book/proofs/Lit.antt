@@ -1,8 +1,7 @@
 -- What one session more adds to the masks, and one mask written.
-use Rattle.std.proofs.Common.{◌≡◌, ℕ, zero, suc, ◌+◌, ◌-◌, ◌*◌, ◌%◌, ◌^◌, ◌<◌, ◌≤◌, Bool, true, false, cond, ◌&&◌, ◌||◌, eqb, ltb, ◌⊎◌, List, [], ◌∷◌, length, get_or, set, replicate, sym, refl, ap, ◌∙◌, ap₂, inl, inr, pow-suc, arith, get_or-set_other, get_or-set_same}
+use Rattle.std.proofs.Common.{◌≡◌, ℕ, zero, suc, ◌+◌, ◌-◌, ◌*◌, ◌^◌, ◌<◌, ◌≤◌, Bool, true, false, cond, ◌&&◌, ◌||◌, eqb, ltb, List, [], ◌∷◌, sym, refl, ap, ◌∙◌, ap₂, inl, inr, pow-suc, arith}
 use lib.Bits.{bit_or}
-use Rattle.std.proofs.lemmas.Nat.{one_shl}
-use Rattle.std.proofs.lemmas.Bool.{cases_eq, cases_lt, eq-eqb, ne_eqb, lt-ltb, le-ltb, and_from}
+use Rattle.std.proofs.lemmas.Bool.{cases_eq, cases_lt, eq-eqb, ne_eqb, lt-ltb, le-ltb}
 use Rattle.reckoning.specs.declared.session.Session.{Session}
 use Rattle.reckoning.specs.Masks.{mask, mask_from, out_mask, into_mask}
 use Rattle.reckoning.specs.Parts.{Parts}
@@ -80,36 +79,3 @@ out_none L a = mask_none 32 0
 pub into_none : (L : Parts) (b : ℕ) → into_mask L [] b ≡ 0
 unfolding into_mask
 into_none L b = mask_none 32 0
-
--- ---- one mask is written
-
-pub mark_here : (ms : List ℕ) (x w a : ℕ) → length ms ≡ 32 → x < 32 → w < 32 → get_or (set ms x (bit_or (get_or ms x 0) ((1 * 2 ^ w) % 2 ^ 32))) a 0 ≡ marked x w a (get_or ms a 0)
-mark_here ms x w a l hx hw =
-    elim (cases_eq a x) [
-      | inl e ↦
-          ap (λ (k : ℕ). get_or (set ms x (bit_or (get_or ms x 0) ((1 * 2 ^ w) % 2 ^ 32))) k 0) e
-          ∙ (here
-          ∙ (ap (bit_or (get_or ms x 0)) (one_shl w 32 hw)
-          ∙ (ap (λ (k : ℕ). bit_or (get_or ms k 0) (2 ^ w)) (sym e) ∙ sym (ap (λ (b : Bool). cond b (bit_or (get_or ms a 0) (2 ^ w)) (get_or ms a 0)) (and_from _ _ (eq-eqb x a (sym e)) (lt-ltb w 32 hw))))))
-      | inr d ↦
-          other d ∙ sym (ap (λ (b : Bool). cond (b && ltb w 32) (bit_or (get_or ms a 0) (2 ^ w)) (get_or ms a 0)) (ne_eqb x a (λ e. d (sym e))))
-    ]
-  where
-    here : get_or (set ms x (bit_or (get_or ms x 0) ((1 * 2 ^ w) % 2 ^ 32))) x 0 ≡ bit_or (get_or ms x 0) ((1 * 2 ^ w) % 2 ^ 32)
-    here = let lt : x < length ms = omega arith in rw get_or-set_same
-
-    other : (a ≡ x → ⊥) → get_or (set ms x (bit_or (get_or ms x 0) ((1 * 2 ^ w) % 2 ^ 32))) a 0 ≡ get_or ms a 0
-    other d = rw get_or-set_other
-
-pub mark_none : (x w a m : ℕ) → a < 32 → (32 ≤ x) ⊎ (32 ≤ w) → m ≡ marked x w a m
-mark_none x w a m h (inl k) = sym (ap (λ (b : Bool). cond (b && ltb w 32) (bit_or m (2 ^ w)) m) (ne_eqb x a (λ e. omega arith)))
-mark_none x w a m h (inr k) = sym (ap (λ (b : Bool). cond (eqb x a && b) (bit_or m (2 ^ w)) m) (le-ltb w 32 k) ∙ and_no (eqb x a))
-  where
-    and_no : (b : Bool) → cond (b && false) (bit_or m (2 ^ w)) m ≡ m
-    and_no true = refl
-    and_no false = refl
-
-pub zeros : (n a : ℕ) → ◌≡◌ {A = ℕ} (get_or (replicate n 0) a 0) 0
-zeros zero a = refl
-zeros (suc n) zero = refl
-zeros (suc n) (suc a) = zeros n a

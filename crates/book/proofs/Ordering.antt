@@ -1,102 +1,57 @@
 -- The orders of a change-over, written one after the other into a sheet.
-use Rattle.std.proofs.Common.{◌≡◌, ℕ, ◌+◌, ◌-◌, ◌*◌, ◌<◌, ◌≤◌, List, [], ◌∷◌, ◌++◌, reverse, length, get_or, take, drop, Some, sym, refl, ap, ◌∙◌, subst, arith}
-use mathlib.Core.List.{reverse-append}
-use Rattle.std.proofs.lemmas.List.{length-append, length-drop, length-reverse, take_more, take_all}
+use Rattle.std.proofs.Common.{◌≡◌, ℕ, ◌*◌, ◌<◌, ◌≤◌, List, [], ◌∷◌, ◌++◌, reverse, length, Some, sym, refl, ap, ◌∙◌, arith}
+use Rattle.std.proofs.lemmas.List.{append_assoc, length-append, length-reverse}
 use Rattle.reckoning.specs.declared.session.Session.{Session}
 use Rattle.reckoning.specs.declared.order.Order.{Order}
 use Rattle.reckoning.specs.declared.order.Kind.TheVariants.{Darken, Light}
 use Rattle.reckoning.specs.Plans.{moved}
-use Rattle.reckoning.specs.Runs.{Page, rewritten}
 use Rattle.reckoning.specs.Sheets.{order, back, chain_orders}
-use Rattle.reckoning.proofs.Admissions.{chain_length}
-use Rattle.sheet.specs.Sheets.{put_count, put_places}
-use Rattle.sheet.proofs.Writing.{Left, left_none, left_put, left_all}
-use Rattle.book.specs.Moves.{nobody}
-use Rattle.book.proofs.Choosing.{take_front, drop_front}
+use Rattle.sheet.specs.Sheets.{Page, rewritten, with_record}
+use Rattle.sheet.proofs.Writing.{put_behind}
 
--- a sheet with all of the list written
-pub page_of_all : {X : Type 0} (ps₀ ps : List X) (n k : ℕ) (whole : List X) → (k ≡ length whole) × (ps ≡ whole ++ drop (length whole) ps₀) → ◌≡◌ {A = Page X} (record { count = k; places = ps }) (rewritten (Some whole) (record { count = n; places = ps₀ }))
-page_of_all {X} ps₀ ps n k whole h = λ i. record { count = h.0 i; places = h.1 i }
+-- one record more, over a page with xs written
+pub put_next : {X : Type 0} (s : Page X) (xs : List X) (x y : X) (o o' : Page X) → length xs < length s.places → o ≡ rewritten (Some xs) s → x ≡ y → o' ≡ with_record o x → o' ≡ rewritten (Some (xs ++ y ∷ [])) s
+put_next {X} s xs x y o o' l h e d =
+    d ∙ (ap (λ (t : Page X). with_record t x) h ∙ (put_behind x xs s l ∙ ap (λ (z : X). rewritten (Some (xs ++ z ∷ [])) s) e))
 
--- what is written does not depend on the count before
-pub over_page : {X : Type 0} {s : Page X} (xs : List X) (n : ℕ) (ps : List X) (m : ℕ) (qs : List X) → s ≡ rewritten (Some xs) (record { count = n; places = ps }) → ps ≡ qs → s ≡ rewritten (Some xs) (record { count = m; places = qs })
-over_page {X} {s} xs n ps m qs h e = h ∙ ap (λ (t : List X). rewritten (Some xs) (record { count = m; places = t })) e
+-- o is s with the orders written that lead up to the lightpath of `dark`, which is the last darkened; `rest` has those before it in the chain
+pub record Turning (g : ℕ → ℕ) (p q : ℕ) (whole : List Order) (s o : Page Order) (dark : Session) (rest : List Session) : Type 0 where
+  pub so_far : List Order
+  pub page : o ≡ rewritten (Some so_far) s
+  pub whole_is : so_far ++ back g p q (dark ∷ rest) ≡ whole
 
-opened : (es : List Session) (i : ℕ) → 0 < i → i ≤ length es → reverse (take i es) ≡ get_or es (i - 1) nobody ∷ reverse (take (i - 1) es)
-opened es i lo hi =
-    let e : i ≡ (i - 1) + 1 = omega arith in
-    let h : i - 1 < length es = omega arith in
-    ap (λ (k : ℕ). reverse (take k es)) e ∙ (ap reverse (take_more es (i - 1) nobody h) ∙ reverse-append (take (i - 1) es) (get_or es (i - 1) nobody ∷ []))
-
-whole_opened : (es : List Session) → 0 < length es → reverse es ≡ get_or es (length es - 1) nobody ∷ reverse (take (length es - 1) es)
-whole_opened es lo =
-    let hi : length es ≤ length es = omega arith in
-    ap reverse (sym (take_all (length es) es hi)) ∙ opened es (length es) lo hi
-
-module _ (g : ℕ → ℕ) (p q : ℕ) (es : List Session) where
-  abbrev pub whole : List Order
-  whole = chain_orders g p q (reverse es)
-
-  -- what is left once i sessions are left to darken and `held` is dark
-  abbrev pub onward : ℕ → Session → List Order
-  onward i held = back g p q (held ∷ reverse (take i es))
-
-  whole_length : length (chain_orders g p q (reverse es)) ≡ 2 * length es
-  whole_length = omega (arith, chain_length g p q (reverse es), length-reverse es)
-
+module _ (g : ℕ → ℕ) (p q : ℕ) (s : Page Order) where
   -- the last of the chain goes dark
-  pub started : (ps₀ : List Order) (k : ℕ) (o : Order) → 0 < length es → k ≡ 0 → 2 * length es ≤ length ps₀ → o ≡ order g Darken (get_or es (length es - 1) nobody)
-      → (k' : ℕ) (ps' : List Order) → k' ≡ put_count k ps₀ → ps' ≡ put_places k ps₀ o → Left ps₀ ps' k' (chain_orders g p q (reverse es)) (onward (length es - 1) (get_or es (length es - 1) nobody))
-  started ps₀ k o lo z fit ho k' ps' hk hp =
-      let held = get_or es (length es - 1) nobody in
-      let w = left_none ps₀ ps₀ k (chain_orders g p q (reverse es)) z refl (omega (arith, whole_length)) in
-      let u : chain_orders g p q (reverse es) ≡ order g Darken held ∷ onward (length es - 1) held = ap (chain_orders g p q) (whole_opened es lo) in
-      left_put ps₀ ps₀ k (chain_orders g p q (reverse es)) (order g Darken held) (onward (length es - 1) held) (subst (λ (r : List Order). Left ps₀ ps₀ k (chain_orders g p q (reverse es)) r) u w) o ho k' ps' hk hp
+  pub started : (es : List Session) (last : Session) (rest : List Session) → reverse es ≡ last ∷ rest → 2 * length es ≤ length s.places
+      → (o o' : Page Order) → o ≡ rewritten (Some []) s → o' ≡ with_record o (order g Darken last) → Turning g p q (chain_orders g p q (reverse es)) s o' last rest
+  started es last rest e fit o o' h d =
+      record {
+        so_far = order g Darken last ∷ [];
+        page = put_next s [] (order g Darken last) (order g Darken last) o o' (let l = ap length e in omega (arith, fit, l, length-reverse es)) h refl d;
+        whole_is = sym (ap (chain_orders g p q) e);
+      }
 
-  module _ (ps₀ ps : List Order) (k i : ℕ) (held : Session) (w : Left ps₀ ps k (chain_orders g p q (reverse es)) (onward i held)) where
+  module _ (whole : List Order) (fit : length whole ≤ length s.places) (o : Page Order) (dark : Session) where
     -- one more goes dark, and the one behind it is lit
-    pub turned : 0 < i → i ≤ length es → (o o' : Order) → o ≡ order g Darken (get_or es (i - 1) nobody) → o' ≡ order g Light (moved p q held)
-        → (k₁ : ℕ) (ps₁ : List Order) → k₁ ≡ put_count k ps → ps₁ ≡ put_places k ps o → (k₂ : ℕ) (ps₂ : List Order) → k₂ ≡ put_count k₁ ps₁ → ps₂ ≡ put_places k₁ ps₁ o' → Left ps₀ ps₂ k₂ (chain_orders g p q (reverse es)) (onward (i - 1) (get_or es (i - 1) nobody))
-    turned lo hi o o' ho ho' k₁ ps₁ e₁ d₁ k₂ ps₂ e₂ d₂ =
-        let before = get_or es (i - 1) nobody in
-        let w₁ = left_put ps₀ ps k (chain_orders g p q (reverse es)) (order g Darken before) (order g Light (moved p q held) ∷ onward (i - 1) before) (subst (λ (r : List Session). Left ps₀ ps k (chain_orders g p q (reverse es)) (back g p q (held ∷ r))) (opened es i lo hi) w) o ho k₁ ps₁ e₁ d₁ in
-        left_put ps₀ ps₁ k₁ (chain_orders g p q (reverse es)) (order g Light (moved p q held)) (onward (i - 1) before) w₁ o' ho' k₂ ps₂ e₂ d₂
+    pub turned : (rest : List Session) (next : Session) (rest' : List Session) → Turning g p q whole s o dark rest → rest ≡ next ∷ rest'
+        → (x y : Order) → x ≡ order g Darken next → y ≡ order g Light (moved p q dark) → (o₁ o₂ : Page Order) → o₁ ≡ with_record o x → o₂ ≡ with_record o₁ y → Turning g p q whole s o₂ next rest'
+    turned rest next rest' t e x y hx hy o₁ o₂ d₁ d₂ =
+        let xs = t.so_far in
+        let a = order g Darken next in
+        let b = order g Light (moved p q dark) in
+        let w : xs ++ (a ∷ b ∷ back g p q (next ∷ rest')) ≡ whole = ap (λ (r : List Session). xs ++ back g p q (dark ∷ r)) (sym e) ∙ t.whole_is in
+        let n = ap length w in
+        let m = length-append xs (a ∷ b ∷ back g p q (next ∷ rest')) in
+        record {
+          so_far = (xs ++ a ∷ []) ++ b ∷ [];
+          page = put_next s (xs ++ a ∷ []) y b o₁ o₂ (omega (arith, fit, n, m, length-append xs (a ∷ []))) (put_next s xs x a o o₁ (omega (arith, fit, n, m)) t.page hx d₁) hy d₂;
+          whole_is = append_assoc (xs ++ a ∷ []) (b ∷ []) (back g p q (next ∷ rest')) ∙ (append_assoc xs (a ∷ []) (b ∷ back g p q (next ∷ rest')) ∙ w);
+        }
 
     -- the first of the chain is lit
-    pub ended : i ≤ 0 → (o : Order) → o ≡ order g Light (moved p q held) → (n : ℕ) (k' : ℕ) (ps' : List Order) → k' ≡ put_count k ps → ps' ≡ put_places k ps o
-        → ◌≡◌ {A = Page Order} (record { count = k'; places = ps' }) (rewritten (Some (chain_orders g p q (reverse es))) (record { count = n; places = ps₀ }))
-    ended hi o ho n k' ps' e d =
-        let z : i ≡ 0 = omega arith in
-        page_of_all ps₀ ps' n k' (chain_orders g p q (reverse es))
-        (left_all ps₀ ps' k' (chain_orders g p q (reverse es))
-        (left_put ps₀ ps k (chain_orders g p q (reverse es)) (order g Light (moved p q held)) [] (subst (λ (j : ℕ). Left ps₀ ps k (chain_orders g p q (reverse es)) (onward j held)) z w) o ho k' ps' e d))
-
-  pub none_written : (ps₀ : List Order) (k : ℕ) → length es ≡ 0 → k ≡ 0 → ◌≡◌ {A = Page Order} (record { count = k; places = ps₀ }) (rewritten (Some (chain_orders g p q (reverse es))) (record { count = k; places = ps₀ }))
-  none_written ps₀ k z e = go es z
-    where
-      go : (xs : List Session) → length xs ≡ 0 → ◌≡◌ {A = Page Order} (record { count = k; places = ps₀ }) (rewritten (Some (chain_orders g p q (reverse xs))) (record { count = k; places = ps₀ }))
-      go [] h = ap (λ (c : ℕ). record { count = c; places = ps₀ }) e
-      go (x ∷ xs) h = let no_way : ⊥ = omega arith in absurd no_way
-
--- one record more behind all of those written
-pub last_put : {X : Type 0} (ps₀ : List X) (m : ℕ) (xs : List X) (x y : X) (k : ℕ) (ps : List X) → ◌≡◌ {A = Page X} (record { count = k; places = ps }) (rewritten (Some xs) (record { count = m; places = ps₀ })) → length xs + 1 ≤ length ps₀ → y ≡ x
-    → (k' : ℕ) (ps' : List X) → k' ≡ put_count k ps → ps' ≡ put_places k ps y → (n : ℕ) → ◌≡◌ {A = Page X} (record { count = k'; places = ps' }) (rewritten (Some (xs ++ (x ∷ []))) (record { count = n; places = ps₀ }))
-last_put {X} ps₀ m xs x y k ps h fit e k' ps' hk hp n =
-    page_of_all ps₀ ps' n k' (xs ++ (x ∷ [])) (left_all ps₀ ps' k' (xs ++ (x ∷ [])) (left_put ps₀ ps k (xs ++ (x ∷ [])) x [] w y e k' ps' hk hp))
-  where
-    count : k ≡ length xs
-    count = ap (λ (s : Page X). s.count) h
-
-    places : ps ≡ xs ++ drop (length xs) ps₀
-    places = ap (λ (s : Page X). s.places) h
-
-    w : Left ps₀ ps k (xs ++ (x ∷ [])) (x ∷ [])
-    w =
-        let l : length ps ≡ length ps₀ = omega (arith, ap length places, length-append xs (drop (length xs) ps₀), length-drop (length xs) ps₀) in
-        record {
-          front = ap (λ (t : List X). t ++ (x ∷ [])) (ap (λ (i : ℕ). take i ps) count ∙ (ap (take (length xs)) places ∙ take_front xs (drop (length xs) ps₀)));
-          behind = ap (λ (i : ℕ). drop i ps) count ∙ (ap (drop (length xs)) places ∙ (drop_front xs (drop (length xs) ps₀) ∙ ap (λ (i : ℕ). drop i ps₀) (sym count)));
-          long = l;
-          within = omega (arith, l, count);
-          fit = omega (arith, length-append xs (x ∷ []));
-        }
+    pub ended : (rest : List Session) → Turning g p q whole s o dark rest → rest ≡ [] → (y : Order) → y ≡ order g Light (moved p q dark) → (o' : Page Order) → o' ≡ with_record o y → o' ≡ rewritten (Some whole) s
+    ended rest t e y hy o' d =
+        let xs = t.so_far in
+        let b = order g Light (moved p q dark) in
+        let w : xs ++ b ∷ [] ≡ whole = ap (λ (r : List Session). xs ++ back g p q (dark ∷ r)) (sym e) ∙ t.whole_is in
+        put_next s xs y b o o' (omega (arith, fit, ap length w, length-append xs (b ∷ []))) t.page hy d ∙ ap (λ (zs : List Order). rewritten (Some zs) s) w

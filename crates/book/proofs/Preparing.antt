@@ -8,6 +8,7 @@ use Rattle.reckoning.specs.Parts.{Parts}
 use Rattle.reckoning.specs.Plans.{planned}
 use Rattle.reckoning.specs.Questions.{Room, Question, verdict, loads, admit_before, admit_questions}
 use Rattle.reckoning.specs.Sheets.{walked}
+use Rattle.reckoning.specs.Standing.{up_load, down_load}
 use Rattle.reckoning.proofs.Verdicts.{passed, never, passed_on, stopped}
 use Rattle.book.specs.declared.refusal.CallRefusal.{CallRefusal}
 use Rattle.book.specs.declared.course.Course.{Course}
@@ -19,6 +20,23 @@ use Rattle.book.proofs.Asking.{refusal_counts}
 pub at_groups : (L : Parts) (ss : List Session) (s d a b : ℕ) (old new : List ℕ) (r : Course) → a ≡ L.group s → b ≡ L.group d → Chosen L ss a b old new r → Chosen L ss (L.group s) (L.group d) old new r
 at_groups L ss s d a b old new r e f h = subst (λ (x : ℕ). Chosen L ss x (L.group d) old new r) e (subst (λ (x : ℕ). Chosen L ss a x old new r) f h)
 
+-- what the questions of an admission and of a quote give alike, once they are answered yes
+pub record Fitting (L : Parts) (ss : List Session) (walk : List ℕ) (s d : ℕ) : Type 0 where
+  pub source : s < L.sites
+  pub destination : d < L.sites
+  pub groups : L.groups ≡ L.plant_groups
+  pub up : up_load L.group ss L.wavelengths (L.group s) < L.wavelengths
+  pub down : down_load L.group ss L.wavelengths (L.group d) < L.wavelengths
+  pub room : 2 * L.plant_groups - 2 ≤ length walk
+
+module _ (L : Parts) (ss : List Session) (walk : List ℕ) (s d : ℕ) (f : Fitting L ss walk s d) (low : (x : ℕ) → x < L.sites → L.group x < L.groups) where
+  pub opening : Open L ss (L.group s) (L.group d) walk
+  opening = record { out = omega (arith, low s f.source, f.groups); into = omega (arith, low d f.destination, f.groups); up = f.up; down = f.down; room = f.room }
+
+  -- for groups that are told
+  pub opening_at : (a b : ℕ) → a ≡ L.group s → b ≡ L.group d → Open L ss a b walk
+  opening_at a b e h = subst (λ (x : ℕ). Open L ss x b walk) (sym e) (subst (λ (x : ℕ). Open L ss (L.group s) x walk) (sym h) opening)
+
 module _ (L : Parts) (room : Room) (ss : List Session) (walk : List ℕ) (n s d limit : ℕ) where
   -- all but the limit
   abbrev pub asked : List Question
@@ -28,17 +46,13 @@ module _ (L : Parts) (room : Room) (ss : List Session) (walk : List ℕ) (n s d 
     all : AllByRecursion (λ (x : Question). x.0 ≡ true) (admit_before L room ss walk n s d ++ loads L ss s d)
     all = passed (admit_before L room ss walk n s d ++ loads L ss s d) (omega arith) e
 
-    pub in_sites : (s < L.sites) × (d < L.sites)
-    in_sites = let k = and_parts _ _ all.1.1.1.0 in (ltb-true _ _ k.0, ltb-true _ _ k.1)
-
-    pub fitting : L.groups ≡ L.plant_groups
-    fitting = eqb-true _ _ (and_parts _ _ all.0).0
-
-    pub opening : ((x : ℕ) → x < L.sites → L.group x < L.groups) → Open L ss (L.group s) (L.group d) walk
-    opening low =
+    pub fitting : Fitting L ss walk s d
+    fitting =
+        let k = and_parts _ _ all.1.1.1.0 in
         record {
-          out = omega (arith, low s in_sites.0, fitting);
-          into = omega (arith, low d in_sites.1, fitting);
+          source = ltb-true _ _ k.0;
+          destination = ltb-true _ _ k.1;
+          groups = eqb-true _ _ (and_parts _ _ all.0).0;
           up = ltb-true _ _ all.1.1.1.1.1.1.1.1.1.1.0;
           down = ltb-true _ _ all.1.1.1.1.1.1.1.1.1.1.1.0;
           room = leb-true _ _ all.1.1.1.1.1.1.1.0;

@@ -1,7 +1,7 @@
 -- The reply to a release on each way; a refusal leaves the book and the order sheet as they were.
 use Rattle.std.proofs.Common.{◌≡◌, ℕ, ◌≤◌, Bool, cond, List, [], ◌∷◌, map, length, Some, sym, refl, ap, ◌∙◌, arith}
 use Rattle.std.proofs.lemmas.Bool.{eqb-true, le-leb}
-use Rattle.plant.specs.declared.slip.Lightpath.{Lightpath}
+use Rattle.plant.specs.declared.lightpath.Lightpath.{Lightpath}
 use Rattle.reckoning.specs.declared.session.Session.{Session}
 use Rattle.reckoning.specs.declared.order.Order.{Order}
 use Rattle.reckoning.specs.declared.order.Kind.TheVariants.{Darken}
@@ -10,8 +10,8 @@ use Rattle.reckoning.specs.Laws.{put, written}
 use Rattle.reckoning.specs.Lists.{first}
 use Rattle.reckoning.specs.Parts.{Parts}
 use Rattle.reckoning.specs.Questions.{Room, verdict, bearer, order_room, release_questions}
-use Rattle.reckoning.specs.Runs.{Page, rewritten}
-use Rattle.reckoning.specs.Sheets.{order}
+use Rattle.sheet.specs.Sheets.{Page, rewritten}
+use Rattle.reckoning.specs.Sheets.{order, lightpath}
 use Rattle.reckoning.specs.Standing.{bears, without}
 use Rattle.reckoning.proofs.Sessions.{first_found}
 use Rattle.book.specs.declared.book.Book.{Book}
@@ -52,7 +52,7 @@ module _ (L : Parts) (room : Room) (ss : List Session) (walk : List ℕ) (n : �
 
 -- x is the lightpath of the session that goes
 pub released_booked : (room : Room) (walk : List ℕ) (n : ℕ) (b b' : Book) (o o' : Page Order) (s : Session) (x : Lightpath) → 0 ≡ verdict (bearer (parts_in b) (standing_in b) n) → 1 ≤ room.orders → 1 ≤ length o.places → first (bears n) (standing_in b) ≡ Some s
-    → b'.setting ≡ b.setting → standing_in b' ≡ without (standing_in b) n → x ≡ record { wavelength = s.wavelength; source = (parts_in b).group s.source; destination = (parts_in b).group s.destination } → o' ≡ rewritten (Some (order (parts_in b).group Darken s ∷ [])) o
+    → b'.setting ≡ b.setting → standing_in b' ≡ without (standing_in b) n → x ≡ lightpath (parts_in b).group s → o' ≡ rewritten (Some (order (parts_in b).group Darken s ∷ [])) o
     → Booked (release (parts_in b) room (standing_in b) walk n) (released x.wavelength) (darkens x) b b' o o'
 released_booked room walk n b b' o o' s x e l fit h t u v z =
     let y = sym (release_accepted (parts_in b) room (standing_in b) walk n e s l h) in

@@ -1,31 +1,53 @@
--- Rows read one after the other: what one more row adds to what is reckoned of the standing sessions.
-use Rattle.std.proofs.Common.{◌≡◌, ℕ, ◌+◌, ◌-◌, ◌<◌, ◌≤◌, Bool, true, false, cond, List, [], ◌∷◌, reverse, length, get_or, take, Some, count_by, sym, ap, ◌∙◌, arith}
-use mathlib.Core.List.{reverse-append}
-use Rattle.std.proofs.lemmas.List.{take_more}
-use Rattle.std.proofs.lemmas.List.Sums.{sum_by-cons}
-use Rattle.reckoning.specs.declared.session.Session.{Session}
-use Rattle.reckoning.specs.Lists.{first}
-use Rattle.book.specs.Moves.{nobody}
-use Rattle.book.specs.Standing.{standing}
+-- Rows searched, counted and changed from either end.
+use Rattle.std.proofs.Common.{◌≡◌, ℕ, ◌+◌, ◌<◌, Bool, true, false, cond, ◌||◌, List, [], ◌∷◌, ◌++◌, length, get_or, take, drop, map, filter, reverse, count_by, Some, sym, refl, ap, ◌∙◌, arith}
+use mathlib.Core.List.{reverse_aux}
+use Rattle.std.specs.List.{find, list_any, refill}
+use Rattle.std.proofs.lemmas.List.{length-map, reverse-append, take-append-le, take_all, take_more}
+use Rattle.std.proofs.lemmas.List.Sorted.{IsPermutation-reverse, sum_by-IsPermutation}
+use Rattle.reckoning.specs.Lists.{first, any}
 
-pub standing_more : (rows : List Session) (i : ℕ) (d : Session) → i < length rows → standing rows (i + 1) ≡ get_or rows i d ∷ standing rows i
-standing_more rows i d h = ap reverse (take_more rows i d h) ∙ reverse-append (take i rows) (get_or rows i d ∷ [])
+pub find_first : {A : Type 0} (p : A → Bool) (xs : List A) → find p xs ≡ first p xs
+find_first p [] = refl
+find_first p (x ∷ xs) = ap (λ o. cond (p x) (Some x) o) (find_first p xs)
 
-pub count_more : (p : Session → Bool) (rows : List Session) (i : ℕ) (d : Session) (k : ℕ) (b : Bool) → i < length rows → k ≡ count_by p (standing rows i) → p (get_or rows i d) ≡ b → k + cond b 1 0 ≡ count_by p (standing rows (i + 1))
-count_more p rows i d k b h e t =
-    let one : ◌≡◌ {A = ℕ} (cond (p (get_or rows i d)) 1 0) (cond b 1 0) = ap (λ (x : Bool). cond x 1 0) t in
-    omega (arith, e, one, sum_by-cons (λ s. cond (p s) 1 0) (get_or rows i d) (standing rows i), ap (count_by p) (standing_more rows i d h))
+pub any_is : {A : Type 0} (p : A → Bool) (xs : List A) → list_any p xs ≡ any p xs
+any_is p [] = refl
+any_is p (x ∷ xs) = go (p x) (any_is p xs)
+  where
+    go : (b : Bool) → list_any p xs ≡ any p xs → (b || list_any p xs) ≡ cond b true (any p xs)
+    go true e = refl
+    go false e = e
 
--- a search from the newest row down: i rows are left
-module _ (p : Session → Bool) (rows : List Session) (n i : ℕ) (lo : 0 < i) (hi : i ≤ length rows) (inv : first p (standing rows n) ≡ first p (standing rows i)) where
-  top : standing rows i ≡ get_or rows (i - 1) nobody ∷ standing rows (i - 1)
-  top =
-      let e : i ≡ (i - 1) + 1 = omega arith in
-      let h : i - 1 < length rows = omega arith in
-      ap (standing rows) e ∙ standing_more rows (i - 1) nobody h
+map_onto : {A B : Type 0} (f : A → B) (xs acc : List A) → map f (reverse_aux xs acc) ≡ reverse_aux (map f xs) (map f acc)
+map_onto f [] acc = refl
+map_onto f (x ∷ xs) acc = map_onto f xs (x ∷ acc)
 
-  pub down_hit : p (get_or rows (i - 1) nobody) ≡ true → Some (get_or rows (i - 1) nobody) ≡ first p (standing rows n)
-  down_hit t = sym (inv ∙ (ap (first p) top ∙ ap (λ (b : Bool). cond b (Some (get_or rows (i - 1) nobody)) (first p (standing rows (i - 1)))) t))
+pub map_reverse : {A B : Type 0} (f : A → B) (xs : List A) → map f (reverse xs) ≡ reverse (map f xs)
+map_reverse f xs = map_onto f xs []
 
-  pub down_pass : p (get_or rows (i - 1) nobody) ≡ false → first p (standing rows n) ≡ first p (standing rows (i - 1))
-  down_pass t = inv ∙ (ap (first p) top ∙ ap (λ (b : Bool). cond b (Some (get_or rows (i - 1) nobody)) (first p (standing rows (i - 1)))) t)
+filter_onto : {A : Type 0} (p : A → Bool) (xs acc : List A) → filter p (reverse_aux xs acc) ≡ reverse_aux (filter p xs) (filter p acc)
+filter_onto p [] acc = refl
+filter_onto p (x ∷ xs) acc = filter_onto p xs (x ∷ acc) ∙ go (p x)
+  where
+    go : (b : Bool) → reverse_aux (filter p xs) (cond b (x ∷ filter p acc) (filter p acc)) ≡ reverse_aux (cond b (x ∷ filter p xs) (filter p xs)) (filter p acc)
+    go true = refl
+    go false = refl
+
+pub filter_reverse : {A : Type 0} (p : A → Bool) (xs : List A) → filter p (reverse xs) ≡ reverse (filter p xs)
+filter_reverse p xs = filter_onto p xs []
+
+pub count_reverse : {A : Type 0} (p : A → Bool) (xs : List A) → count_by p (reverse xs) ≡ count_by p xs
+count_reverse p xs = sum_by-IsPermutation (λ x. cond (p x) 1 0) xs (reverse xs) (IsPermutation-reverse xs)
+
+pub entered : {A : Type 0} (f : A → A) (rows out : List A) (s : A) → out ≡ map f rows ++ (s ∷ []) → reverse out ≡ s ∷ map f (reverse rows)
+entered {A} f rows out s e = ap reverse e ∙ (reverse-append (map f rows) (s ∷ []) ∙ ap (λ (xs : List A). s ∷ xs) (sym (map_reverse f rows)))
+
+-- one row more read is the newest
+pub newer : {A : Type 0} (rows : List A) (i : ℕ) (d : A) → i < length rows → reverse (take (i + 1) rows) ≡ get_or rows i d ∷ reverse (take i rows)
+newer rows i d h = ap reverse (take_more rows i d h) ∙ reverse-append (take i rows) (get_or rows i d ∷ [])
+
+-- rows written over by their images
+pub all_moved : {A : Type 0} (f : A → A) (rows out : List A) → out ≡ map f rows → refill (length rows) rows out ≡ map f rows
+all_moved f rows out e =
+    let l : length out ≡ length rows = ap length e ∙ length-map rows f in
+    take-append-le (length rows) out (drop (length out) rows) (omega (arith, l)) ∙ (take_all (length rows) out (omega (arith, l)) ∙ e)

@@ -1,32 +1,66 @@
--- The tables of a setting are what layout and plant told.
-use Rattle.std.proofs.Common.{◌≡◌, ℕ, ◌+◌, ◌<◌, ◌≤◌, Bool, List, length, get_or, set, sym, ap, ◌∙◌, inl, inr, arith, get_or-set_other, get_or-set_same}
-use Rattle.std.proofs.lemmas.List.{get_or_default, get_or_past}
-use Rattle.std.proofs.lemmas.Bool.{cases_eq, cases_lt}
-use Rattle.network.specs.Network.{Network}
+-- What layout and plant told, number by number.
+use Rattle.std.proofs.Common.{◌≡◌, ℕ, zero, suc, ◌+◌, ◌<◌, Bool, true, false, ◌&&◌, List, map, length, slice_get, slice_index_or, Some, sym, refl, ap, ◌∙◌, inl, inr, arith}
+use Rattle.std.specs.List.{list_all, range_with_len}
+use Rattle.std.proofs.lemmas.Bool.{cases_lt}
+use Rattle.std.proofs.lemmas.List.FromFn.{length-map-range_with_len, get_or-map-range_with_len}
+use Rattle.std.proofs.lemmas.Option.{slice_get-get_or, slice_get_past}
+use Rattle.network.specs.Network.{Network, Outside}
 use Rattle.plant.specs.Switch.{Switch}
 use Rattle.reckoning.specs.Parts.{Parts, is_dark, parts_told}
+use Rattle.book.specs.declared.setting.Site.{Site}
+use Rattle.book.specs.Sites.{ports_there, group_there}
 
-pub table_more : (xs : List ℕ) (i v : ℕ) (f : ℕ → ℕ) → i < length xs → ((k : ℕ) → k < i → get_or xs k 0 ≡ f k) → v ≡ f i → (k : ℕ) → k < i + 1 → get_or (set xs i v) k 0 ≡ f k
-table_more xs i v f l h e k m =
-    elim (cases_eq k i) [
-      | inl d ↦ ap (λ (j : ℕ). get_or (set xs i v) j 0) d ∙ (here ∙ (e ∙ ap f (sym d)))
-      | inr d ↦ other d ∙ h k (omega arith)
-    ]
-  where
-    here : get_or (set xs i v) i 0 ≡ v
-    here = rw get_or-set_same
+and_first : (a b c : Bool) → (a && (b && c)) ≡ (b && (a && c))
+and_first true b c = refl
+and_first false true c = refl
+and_first false false c = refl
 
-    other : (k ≡ i → ⊥) → get_or (set xs i v) k 0 ≡ get_or xs k 0
-    other d = rw get_or-set_other
+-- the last of a range asked first
+all_last : (p : ℕ → Bool) (a n : ℕ) → list_all p (range_with_len a (suc n)) ≡ (p (a + n) && list_all p (range_with_len a n))
+all_last p a zero = let z : a + 0 ≡ a = omega arith in rw z refl
+all_last p a (suc n) =
+    let z : a + 1 + n ≡ a + suc n = omega arith in
+    ap (λ b. p a && b) (all_last p (a + 1) n)
+    ∙ (and_first (p a) (p (a + 1 + n)) (list_all p (range_with_len (a + 1) n)) ∙ ap (λ k. p k && (p a && list_all p (range_with_len (a + 1) n))) z)
 
-pub table_all : (xs : List ℕ) (f : ℕ → ℕ) (d : ℕ) → length xs ≡ 256 → ((k : ℕ) → k < 256 → get_or xs k 0 ≡ f k) → ((s : ℕ) → 256 ≤ s → f s ≡ d) → (s : ℕ) → get_or xs s d ≡ f s
-table_all xs f d l h o s =
-    elim (cases_lt s 256) [
-      | inl m ↦ get_or_default xs s d 0 (omega arith) ∙ h s m
-      | inr m ↦ get_or_past xs s d (omega arith) ∙ sym (o s m)
-    ]
+-- a test of all numbers below n that asks the last first
+pub all_below : (p q : ℕ → Bool) → q 0 ≡ true → ((n : ℕ) → q (suc n) ≡ (p n && q n)) → (n : ℕ) → list_all p (range_with_len 0 n) ≡ q n
+all_below p q none more zero = sym none
+all_below p q none more (suc n) =
+    let z : 0 + n ≡ n = omega arith in
+    all_last p 0 n ∙ (ap (λ k. p k && list_all p (range_with_len 0 n)) z ∙ (ap (λ b. p n && b) (all_below p q none more n) ∙ sym (more n)))
 
--- over the fields one by one, since a setting has ghost fields
-pub parts_are : (sites groups waves span : ℕ) (dark : Bool) (ports group : List ℕ) (n : Network) (w : Switch) → sites ≡ n.sites → groups ≡ n.groups → ((s : ℕ) → get_or ports s 0 ≡ n.ports s) → ((s : ℕ) → get_or group s groups ≡ n.group s) → waves ≡ w.waves → span ≡ w.groups → dark ≡ is_dark w
-    → ◌≡◌ {A = Parts} (record { sites = sites; groups = groups; ports = λ s. get_or ports s 0; group = λ s. get_or group s groups; wavelengths = waves; plant_groups = span; dark = dark }) (parts_told n w)
-parts_are sites groups waves span dark ports group n w a b c d e f h = λ i. record { sites = a i; groups = b i; ports = λ s. c s i; group = λ s. d s i; wavelengths = e i; plant_groups = f i; dark = h i }
+-- ---- the sites of a layout, one by one
+
+abbrev pub site_of : Network → ℕ → Site
+site_of n s = record { ports = n.ports s; group = n.group s }
+
+module _ (n : Network) (out : Outside n) (sites : List Site) (is : sites ≡ map (site_of n) (range_with_len 0 n.sites)) where
+  pub sites_long : length sites ≡ n.sites
+  sites_long = ap length is ∙ length-map-range_with_len (site_of n) 0 n.sites
+
+  site_in : (s : ℕ) → s < n.sites → slice_get sites s ≡ Some (site_of n s)
+  site_in s l =
+      let z : 0 + s ≡ s = omega arith in
+      slice_get-get_or sites s (site_of n 0) (omega (arith, sites_long))
+      ∙ ap Some (ap (λ xs. slice_index_or xs s (site_of n 0)) is ∙ get_or-map-range_with_len (site_of n) 0 n.sites s s (site_of n 0) l z)
+
+  ports_is : (s : ℕ) → ports_there (slice_get sites s) ≡ n.ports s
+  ports_is s =
+      elim (cases_lt s n.sites) [
+        | inl l ↦ ap ports_there (site_in s l)
+        | inr l ↦ ap ports_there (slice_get_past sites s (omega (arith, sites_long))) ∙ sym (out.no_ports s l)
+      ]
+
+  module _ (groups : ℕ) (same : groups ≡ n.groups) where
+    pub group_is : (s : ℕ) → group_there groups (slice_get sites s) ≡ n.group s
+    group_is s =
+        elim (cases_lt s n.sites) [
+          | inl l ↦ ap (group_there groups) (site_in s l)
+          | inr l ↦ ap (group_there groups) (slice_get_past sites s (omega (arith, sites_long))) ∙ (same ∙ sym (out.no_group s l))
+        ]
+
+    -- over the fields one by one, since a setting has ghost fields
+    pub parts_are : (w : Switch) (waves span : ℕ) (dark : Bool) → waves ≡ w.waves → span ≡ w.groups → dark ≡ is_dark w
+        → ◌≡◌ {A = Parts} (record { sites = length sites; groups = groups; ports = λ s. ports_there (slice_get sites s); group = λ s. group_there groups (slice_get sites s); wavelengths = waves; plant_groups = span; dark = dark }) (parts_told n w)
+    parts_are w waves span dark b c d = λ i. record { sites = sites_long i; groups = same i; ports = λ s. ports_is s i; group = λ s. group_is s i; wavelengths = b i; plant_groups = c i; dark = d i }

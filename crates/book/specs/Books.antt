@@ -9,4 +9,4 @@ abbrev pub parts_in : Book → Parts
 parts_in b = parts_of b.setting
 
 abbrev pub standing_in : Book → List Session
-standing_in b = standing b.rows b.count
+standing_in b = standing b.rows

@@ -1,7 +1,7 @@
 -- What the calls of a book answer, and what a plant is to be told, in the words of the reckoning.
-use Rattle.std.specs.Prelude.{◌≡◌, ℕ, List, [], ◌∷◌, ◌++◌, map, reverse, length, take, Some, Ok, Err, Result}
+use Rattle.std.specs.Prelude.{◌≡◌, ℕ, List, [], ◌∷◌, ◌++◌, map, reverse, length, Some, Ok, Err, Result}
 use Rattle.std.specs.List.{range_with_len}
-use Rattle.plant.specs.declared.slip.Lightpath.{Lightpath}
+use Rattle.plant.specs.declared.lightpath.Lightpath.{Lightpath}
 use Rattle.plant.specs.Orders.{change_over, darken, light, Order as Put}
 use Rattle.reckoning.specs.declared.session.Session.{Session}
 use Rattle.reckoning.specs.declared.order.Order.{Order}
@@ -11,8 +11,8 @@ use Rattle.reckoning.specs.Laws.{put, written}
 use Rattle.reckoning.specs.Lists.{first, flat, as_list}
 use Rattle.reckoning.specs.Parts.{Parts}
 use Rattle.reckoning.specs.Questions.{Room, verdict, admit_questions}
-use Rattle.reckoning.specs.Runs.{Page, rewritten}
-use Rattle.reckoning.specs.Sheets.{order, chain_orders, retuning}
+use Rattle.sheet.specs.Sheets.{Page, rewritten}
+use Rattle.reckoning.specs.Sheets.{order, chain_orders, lightpath, retuning}
 use Rattle.reckoning.specs.Standing.{leaves}
 use Rattle.book.specs.declared.book.Book.{Book}
 use Rattle.book.specs.declared.change.Change.{Change}
@@ -29,7 +29,7 @@ answered accepted (Ok x) = accepted x
 answered accepted (Err e) = refused (refusal_number e)
 
 abbrev pub admit_answer : Result Change CallRefusal → Answer
-admit_answer r = answered (λ x. admitted x.wavelength x.moves) r
+admit_answer r = answered (λ x. admitted x.path.wavelength (length x.chain.items)) r
 
 abbrev pub quote_answer : Result (ℕ × ℕ) CallRefusal → Answer
 quote_answer r = answered (λ x. quoted x.0 x.1) r
@@ -54,7 +54,7 @@ told puts (Err e) = []
 
 -- the chain changes over, and the new lightpath is lit
 abbrev pub changes : Change → List Put
-changes x = change_over (take x.moves x.chain) ++ (light x.wavelength x.source x.destination ∷ [])
+changes x = change_over x.chain.items ++ (light x.path.wavelength x.path.source x.path.destination ∷ [])
 
 abbrev pub darkens : Lightpath → List Put
 darkens x = darken x.wavelength x.source x.destination ∷ []
@@ -74,11 +74,8 @@ pub record Carried (chain : List Session) (p q : ℕ) (new : Session) (b b' : Bo
   pub standing : standing_in b' ≡ new ∷ map (shift chain p q) (standing_in b)
   pub orders : o' ≡ rewritten (Some (chain_orders (parts_in b).group p q (reverse chain) ++ (order (parts_in b).group Light new ∷ []))) o
   pub room : length o'.places ≡ length o.places
-  pub moves : x.moves ≡ length chain
-  pub chain_changes : take x.moves x.chain ≡ map (retuning (parts_in b).group p q) chain
-  pub wavelength : x.wavelength ≡ new.wavelength
-  pub source : x.source ≡ (parts_in b).group new.source
-  pub destination : x.destination ≡ (parts_in b).group new.destination
+  pub chain_changes : x.chain.items ≡ map (retuning (parts_in b).group p q) chain
+  pub path : x.path ≡ lightpath (parts_in b).group new
 
 -- what is known once the questions are answered and the chains are walked; `new` is the walk list then
 abbrev pub Prepared : Parts → Room → List Session → List ℕ → ℕ → ℕ → ℕ → ℕ → List ℕ → Result Course CallRefusal → Type 0

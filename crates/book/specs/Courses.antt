@@ -20,8 +20,8 @@ plan_for L ss a b = plan L.group ss L.wavelengths L.plant_groups a b
 
 pub record Chosen (L : Parts) (ss : List Session) (a b : ℕ) (old new : List ℕ) (r : Course) : Type 0 where
   pub gives : r.gives ≡ (plan_for L ss a b).gives
-  pub p : r.p ≡ (plan_for L ss a b).p
-  pub q : r.q ≡ (plan_for L ss a b).q
+  pub p : r.exchange.p ≡ (plan_for L ss a b).p
+  pub q : r.exchange.q ≡ (plan_for L ss a b).q
   pub moves : r.moves ≡ length (plan_for L ss a b).moving
   pub walk : new ≡ walked L.group (plan_for L ss a b) old
   pub moving : take r.moves (drop r.begin new) ≡ codes L.group (plan_for L ss a b).moving

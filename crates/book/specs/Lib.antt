@@ -1,10 +1,10 @@
 -- The definitions that the contracts cite.
+pub mod Sites
 pub mod Standing
 pub mod Keys
 pub mod Books
 pub mod Moves
 pub mod Walks
 pub mod Courses
-pub mod Pages
 pub mod Refusals
 pub mod Calls

@@ -1,5 +1,5 @@
 -- Chains as a walk list has them.
-use Rattle.std.specs.Prelude.{ℕ, ◌+◌, ◌*◌, List, ◌++◌, length, take, drop, Option}
+use Rattle.std.specs.Prelude.{ℕ, ◌*◌, List, ◌++◌, length, drop, Option}
 use Rattle.reckoning.specs.declared.session.Session.{Session}
 use Rattle.reckoning.specs.Lists.{chain}
 use Rattle.reckoning.specs.Parts.{Parts}
@@ -9,6 +9,6 @@ use Rattle.reckoning.specs.Plans.{next}
 unfoldable pub chained : Parts → List Session → ℕ → ℕ → Option Session → List Session
 chained L ss p q start = chain (next L.group ss p q) (2 * L.plant_groups) start
 
--- xs written over the places from `at` on
-abbrev pub laid : ℕ → List ℕ → List ℕ → List ℕ
-laid at xs old = take at old ++ (xs ++ drop (at + length xs) old)
+-- xs written over the first places
+abbrev pub laid : List ℕ → List ℕ → List ℕ
+laid xs old = xs ++ drop (length xs) old

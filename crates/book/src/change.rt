@@ -1,15 +1,11 @@
 //! What a plant is to do for a session that was admitted.
-ghost use Rattle.std.specs.Prelude.{◌≤◌};
-
+use arrayvec::ArrayVec;
 use plant::change_over::Retuning;
+use plant::lightpath::Lightpath;
 
-/// The first `moves` of the chain change over, and then the new lightpath is lit.
-#[derive(Clone, Copy)]
+/// The chain changes over, and then the new lightpath is lit.
+#[derive(Drop)]
 pub struct Change {
-    pub moves: u8,
-    pub chain: [Retuning; 32],
-    pub wavelength: u8,
-    pub source: u8,
-    pub destination: u8,
-    ghost few: { moves ≤ 32 },
+    pub chain: ArrayVec<Retuning, 32>,
+    pub path: Lightpath,
 }

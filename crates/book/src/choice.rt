@@ -1,48 +1,57 @@
 //! Which wavelength a new session gets, and which chain makes way for it.
-ghost use Rattle.std.specs.Prelude.{◌≡◌};
+ghost use Rattle.std.specs.Prelude.{◌≡◌, ◌<◌, ◌≤◌, not, ◌&&◌, IfSome, IfNone};
+ghost use Rattle.reckoning.specs.Lists.{lowest};
+ghost use Rattle.reckoning.specs.Standing.{lit_out, lit_into};
 ghost use Rattle.book.specs.Books.{parts_in, standing_in};
 ghost use Rattle.book.specs.Courses.{Open, Chosen};
 
 use crate::book::Book;
 use crate::course::Course;
 use crate::key::Key;
+use crate::masks::lowest_free;
+use crate::moving::Exchange;
 
 impl Book {
+    /// The lowest wavelength that is free out of group `a` and into group `b`.
+    fn free_at_both(&self, a: u8, b: u8) -> Option<u8>
+        requires { (a < 32) × (b < 32) }
+        ensures found { IfSome result (λ w. (w < (parts_in self.now).wavelengths) × (w ≡ lowest (λ v. not (lit_out (parts_in self.now).group (standing_in self.now) a v) && not (lit_into (parts_in self.now).group (standing_in self.now) b v)) (parts_in self.now).wavelengths)) }
+        ensures none { IfNone result ((parts_in self.now).wavelengths ≤ lowest (λ v. not (lit_out (parts_in self.now).group (standing_in self.now) a v) && not (lit_into (parts_in self.now).group (standing_in self.now) b v)) (parts_in self.now).wavelengths) }
+    {
+        lowest_free(self.outward.at(a) | self.inward.at(b), self.setting.waves)
+    }
+
     /// The wavelength that a session from group `a` to group `b` gets, and the chain that moves; writes the walk list where
     /// no wavelength is free at both ends.
     pub(crate) fn choose(&self, a: u8, b: u8, walk: &mut [u16]) -> Course
         requires { Open (parts_in self.now) (standing_in self.now) a b walk.old }
         ensures { Chosen (parts_in self.now) (standing_in self.now) a b walk.old walk.new result }
     {
-        let w = self.free_at_both(a, b);
-        if w < self.setting.waves {
+        if let Some(gives) = self.free_at_both(a, b) {
             return Course {
-                gives: w,
-                p: 0,
-                q: 0,
-                begin: 0,
-                moves: 0,
+                gives,
+                ..Course::default()
             };
         }
-        let p = self.free_out(a);
-        let q = self.free_into(b);
+        // neither end is full
+        let p = self.outward.free(a, self.setting.waves).unwrap();
+        let q = self.inward.free(b, self.setting.waves).unwrap();
+        let exchange = Exchange { p, q };
         let first = self.look_up(Key::Out(q, a));
-        let m = self.follow(p, q, first, walk, 0);
+        let m = self.follow(exchange, first, walk);
         let second = self.look_up(Key::Into(p, b));
-        let n = self.follow(p, q, second, walk, m);
+        let n = self.follow(exchange, second, &mut walk[m..]);
         if m <= n {
             Course {
                 gives: q,
-                p,
-                q,
+                exchange,
                 begin: 0,
                 moves: m,
             }
         } else {
             Course {
                 gives: p,
-                p,
-                q,
+                exchange,
                 begin: m,
                 moves: n,
             }

@@ -10,7 +10,6 @@ mod course;
 mod enter;
 mod key;
 pub mod list;
-mod loads;
 mod look;
 mod masks;
 mod moving;

@@ -11,16 +11,20 @@ use crate::setting::Setting;
 use reckoning::session::Session;
 
 impl Setting {
+    /// The group of a site, or the number of groups for a number that is no site.
     pub(crate) fn group_of(&self, site: u8) -> u8
         ensures { result ≡ (parts_of self.now).group site }
     {
-        self.group[site as usize]
+        self.sites
+            .get(site as usize)
+            .map_or(self.groups, |s| s.group)
     }
 
+    /// The ports of a site, or 0 for a number that is no site.
     pub(crate) fn ports_of(&self, site: u8) -> u8
         ensures { result ≡ (parts_of self.now).ports site }
     {
-        self.ports[site as usize]
+        self.sites.get(site as usize).map_or(0, |s| s.ports)
     }
 
     // Is it the session that the key names?
@@ -29,8 +33,8 @@ impl Setting {
     {
         match key {
             Key::Number(number) => s.number == number,
-            Key::Out(w, a) => (s.wavelength == w) & (self.group_of(s.source) == a),
-            Key::Into(w, b) => (s.wavelength == w) & (self.group_of(s.destination) == b),
+            Key::Out(w, a) => s.wavelength == w && self.group_of(s.source) == a,
+            Key::Into(w, b) => s.wavelength == w && self.group_of(s.destination) == b,
             Key::From(site) => s.source == site,
             Key::To(site) => s.destination == site,
         }
@@ -42,25 +46,20 @@ impl Book {
     pub(crate) fn look_up(&self, key: Key) -> Option<Session>
         ensures { result ≡ first (suits (parts_in self.now).group key) (standing_in self.now) }
     {
-        for i in (0..self.count).rev() {
-            let s = self.rows[i];
-            if self.setting.suits(key, s) {
-                return Some(s);
-            }
-        }
-        None
+        self.rows
+            .iter()
+            .rev()
+            .find(|s| self.setting.suits(key, **s))
+            .copied()
     }
 
     /// How many sessions the key names.
     pub(crate) fn tell(&self, key: Key) -> usize
         ensures { result ≡ count_by (suits (parts_in self.now).group key) (standing_in self.now) }
     {
-        let mut named: usize = 0;
-        for i in 0..self.count {
-            if self.setting.suits(key, self.rows[i]) {
-                named += 1;
-            }
-        }
-        named
+        self.rows
+            .iter()
+            .filter(|s| self.setting.suits(key, **s))
+            .count()
     }
 }

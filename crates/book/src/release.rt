@@ -5,13 +5,13 @@ ghost use Rattle.reckoning.specs.Lists.{first};
 ghost use Rattle.reckoning.specs.Standing.{bears};
 ghost use Rattle.book.specs.Books.{parts_in, standing_in};
 ghost use Rattle.book.specs.Calls.{Booked, darkens, release_answer, told, where_answer};
-ghost use Rattle.book.specs.Pages.{page_of};
+ghost use Rattle.sheet.specs.Pages.{page_of};
 
 use crate::book::Book;
 use crate::questions::ask;
 use crate::refusal::CallRefusal;
-use plant::slip::Lightpath;
-use reckoning::order::{Kind, Order};
+use plant::lightpath::Lightpath;
+use reckoning::order::Order;
 use reckoning::session::Session;
 use sheet::sheet::Sheet;
 
@@ -23,19 +23,14 @@ impl Book {
         orders: &mut Sheet<Order>,
     ) -> Result<Lightpath, CallRefusal>
         ensures same { orders.new.places.ghost_name ≡ orders.old.places.ghost_name }
-        ensures booked { (walk : List ℕ) → Booked (release (parts_in self.old) (record { orders = length orders.entry.now.places.now; rows = 0 }) (standing_in self.old) walk number) (release_answer result) (told darkens result) self.old self.new (page_of orders.entry.now) (page_of orders.exit.now) }
+        ensures booked { (walk : List ℕ) → Booked (release (parts_in self.old) (record { orders = length (page_of orders.entry.now).places; rows = 0 }) (standing_in self.old) walk number) (release_answer result) (told darkens result) self.old self.new (page_of orders.entry.now) (page_of orders.exit.now) }
     {
         let s = self.ask_bearer(number)?;
         ask(1 <= orders.room(), CallRefusal::OrderRoom)?;
-        let order = self.setting.order(Kind::Darken, s);
-        orders.clear();
-        let _ = orders.put(order);
+        self.setting.write_darkening(s, orders);
+        let path = self.setting.lightpath(s);
         self.leave(number);
-        Ok(Lightpath {
-            wavelength: order.wavelength,
-            source: order.source,
-            destination: order.destination,
-        })
+        Ok(path)
     }
 
     /// The session of this number, where it stands.

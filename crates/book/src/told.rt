@@ -1,52 +1,49 @@
 //! Making asks layout and plant once, and keeps their answers.
 ghost use Rattle.std.specs.Prelude.{◌≡◌, []};
-ghost use Rattle.plant.specs.Switch.{Proper};
-ghost use Rattle.reckoning.specs.Parts.{quiet, is_dark, parts_told};
+ghost use Rattle.reckoning.specs.Parts.{quiet, dark_below, is_dark, parts_told};
 ghost use Rattle.book.specs.Standing.{parts_of};
 ghost use Rattle.book.specs.Books.{parts_in, standing_in};
 
 use crate::book::Book;
-use crate::setting::Setting;
+use crate::masks::Masks;
+use crate::setting::{Setting, Site};
+use arrayvec::ArrayVec;
 use network::layout::Layout;
 use plant::Plant;
-use reckoning::session::Session;
 
 // No group hears any on the wavelength.
 fn quiet_on<P: Plant>(plant: &P, w: u8) -> bool
     ensures { result ≡ quiet (P.state plant.now).hears w (P.state plant.now).groups }
 {
-    let mut dark = true;
-    for b in 0..plant.groups() {
-        dark = !plant.heard(w, b).is_some() & dark;
-    }
-    dark
+    (0..plant.groups()).all(|b| plant.heard(w, b).is_none())
+}
+
+// No group hears any on the first `n` wavelengths.
+fn is_dark_below<P: Plant>(plant: &P, n: u8) -> bool
+    ensures { result ≡ dark_below (P.state plant.now).hears (P.state plant.now).groups n }
+{
+    (0..n).all(|w| quiet_on(plant, w))
 }
 
 fn is_dark<P: Plant>(plant: &P) -> bool
     ensures { result ≡ is_dark (P.state plant.now) }
 {
-    let mut dark = true;
-    for w in 0..plant.waves() {
-        dark = quiet_on(plant, w) & dark;
-    }
-    dark
+    is_dark_below(plant, plant.waves())
 }
 
 fn told<L: Layout, P: Plant>(layout: &L, plant: &P) -> Setting
-    ensures proper { Proper (P.state plant.now) }
-    ensures parts { parts_of result ≡ parts_told (L.network layout.now) (P.state plant.now) }
+    ensures { parts_of result ≡ parts_told (L.network layout.now) (P.state plant.now) }
 {
-    let mut ports = [0u8; 256];
-    let mut group = [0u8; 256];
-    for s in 0..256usize {
-        ports[s] = layout.ports(s as u8);
-        group[s] = layout.group(s as u8);
+    let mut sites = ArrayVec::new();
+    for s in 0..layout.sites() {
+        sites.push(Site {
+            ports: layout.ports(s),
+            group: layout.group(s),
+        });
     }
     Setting {
-        sites: layout.sites(),
+        sites,
         groups: layout.groups(),
-        ports,
-        group,
         waves: plant.waves(),
         span: plant.groups(),
         dark: is_dark(plant),
@@ -58,18 +55,11 @@ impl Book {
         ensures setting { result.setting ≡ setting }
         ensures none { standing_in result ≡ [] }
     {
-        let nobody = Session {
-            number: 0,
-            source: 0,
-            destination: 0,
-            wavelength: 0,
-        };
         Book {
             setting,
-            rows: [nobody; 1024],
-            count: 0,
-            outward: [0; 32],
-            inward: [0; 32],
+            rows: ArrayVec::new(),
+            outward: Masks::default(),
+            inward: Masks::default(),
         }
     }
 
@@ -77,7 +67,6 @@ impl Book {
     pub fn new<L: Layout, P: Plant>(layout: &L, plant: &P) -> Book
         ensures parts { parts_in result ≡ parts_told (L.network layout.now) (P.state plant.now) }
         ensures none { standing_in result ≡ [] }
-        ensures proper { Proper (P.state plant.now) }
     {
         Book::empty(told(layout, plant))
     }

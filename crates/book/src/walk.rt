@@ -1,5 +1,5 @@
 //! Alternating paths of sessions, written as codes.
-ghost use Rattle.std.specs.Prelude.{◌≡◌, ◌+◌, ◌≤◌, length};
+ghost use Rattle.std.specs.Prelude.{◌≡◌, ◌≤◌, length};
 ghost use Rattle.reckoning.specs.Plans.{next};
 ghost use Rattle.reckoning.specs.Sheets.{code, codes};
 ghost use Rattle.book.specs.Standing.{parts_of};
@@ -8,6 +8,7 @@ ghost use Rattle.book.specs.Walks.{chained, laid};
 
 use crate::book::Book;
 use crate::key::Key;
+use crate::moving::Exchange;
 use crate::setting::Setting;
 use reckoning::session::Session;
 
@@ -21,40 +22,38 @@ impl Setting {
 }
 
 impl Book {
-    /// The session after `s` in a chain on `p` and `q`.
-    fn follower(&self, p: u8, q: u8, s: Session) -> Option<Session>
-        ensures { result ≡ next (parts_in self.now).group (standing_in self.now) p q s }
+    /// The session after `s` in a chain on two wavelengths.
+    fn follower(&self, exchange: Exchange, s: Session) -> Option<Session>
+        ensures { result ≡ next (parts_in self.now).group (standing_in self.now) exchange.p exchange.q s }
     {
-        if s.wavelength == q {
-            self.look_up(Key::Into(p, self.setting.group_of(s.destination)))
-        } else if s.wavelength == p {
-            self.look_up(Key::Out(q, self.setting.group_of(s.source)))
+        if s.wavelength == exchange.q {
+            self.look_up(Key::Into(exchange.p, self.setting.group_of(s.destination)))
+        } else if s.wavelength == exchange.p {
+            self.look_up(Key::Out(exchange.q, self.setting.group_of(s.source)))
         } else {
             None
         }
     }
 
-    /// Writes the codes of the chain that begins with `start` from the place `at` on, and tells how many they are.
+    /// Writes the codes of the chain that begins with `start`, and tells how many they are.
     pub(crate) fn follow(
         &self,
-        p: u8,
-        q: u8,
+        exchange: Exchange,
         start: Option<Session>,
         walk: &mut [u16],
-        at: usize,
     ) -> usize
-        requires { at + length (chained (parts_in self.now) (standing_in self.now) p q start) ≤ length walk.old }
-        ensures count { result ≡ length (chained (parts_in self.now) (standing_in self.now) p q start) }
-        ensures written { walk.new ≡ laid at (codes (parts_in self.now).group (chained (parts_in self.now) (standing_in self.now) p q start)) walk.old }
+        requires { length (chained (parts_in self.now) (standing_in self.now) exchange.p exchange.q start) ≤ length walk.old }
+        ensures count { result ≡ length (chained (parts_in self.now) (standing_in self.now) exchange.p exchange.q start) }
+        ensures written { walk.new ≡ laid (codes (parts_in self.now).group (chained (parts_in self.now) (standing_in self.now) exchange.p exchange.q start)) walk.old }
     {
-        let most = 2 * self.setting.span as usize;
+        let most = walk.len().min(2 * self.setting.span as usize);
         let mut next = start;
-        for i in 0..most {
+        for (i, place) in walk[..most].iter_mut().enumerate() {
             let Some(s) = next else {
                 return i;
             };
-            walk[at + i] = self.setting.code(s);
-            next = self.follower(p, q, s);
+            *place = self.setting.code(s);
+            next = self.follower(exchange, s);
         }
         most
     }

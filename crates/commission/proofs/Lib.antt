@@ -1,2 +1,1 @@
-mod Lighting
-mod Registers
+mod Ranges

@@ -1,41 +1,35 @@
 -- What the job of commissioning a plant answers, and the plant after it.
-use Rattle.std.specs.Prelude.{◌≡◌, ℕ, ◌+◌, ◌*◌, ◌<◌, List, [], ◌∷◌, map, drop, Ok, Err, Result, slice_index}
+use Rattle.std.specs.Prelude.{◌≡◌, ℕ, ◌+◌, ◌*◌, ◌<◌, List, [], ◌∷◌, map, drop, Result, slice_index}
+use Rattle.plant.specs.declared.lightpath.Lightpath.{Lightpath}
 use Rattle.plant.specs.declared.refusal.PlantRefusal.{PlantRefusal}
-use Rattle.plant.specs.declared.slip.Lightpath.{Lightpath}
-use Rattle.plant.specs.declared.change_over.Retuning.{Retuning}
 use Rattle.plant.specs.Cells.{coded}
 use Rattle.plant.specs.Orders.{Order, light, darken, answer_to, after, after_all, change_over, until_refused}
-use Rattle.plant.specs.Refusals.{plant_number}
 use Rattle.plant.specs.Switch.{Switch}
-
--- 0 for an accepted order
-abbrev pub answer_number : Result (Unit {0}) PlantRefusal → ℕ
-answer_number (Ok u) = 0
-answer_number (Err e) = plant_number e
+use Rattle.commission.specs.declared.job.Job.{Job}
 
 abbrev pub lighting : Lightpath → Order
 lighting p = light p.wavelength p.source p.destination
 
 -- the answers, each from the plant as those before it left it
-abbrev pub answers_to : Switch → List Lightpath → List ℕ
+abbrev pub answers_to : Switch → List Lightpath → List (Result (Unit {0}) PlantRefusal)
 answers_to t [] = []
-answers_to t (p ∷ ps) = answer_number (answer_to t (lighting p)) ∷ answers_to (after t (lighting p)) ps
+answers_to t (p ∷ ps) = answer_to t (lighting p) ∷ answers_to (after t (lighting p)) ps
 
 -- the job's steps: the plan is lit, as far as the plant accepts it; a chain changes over; another one; and one lightpath is darkened
-abbrev pub plan_lit : Switch → List Lightpath → Switch
-plan_lit t plan = after_all t (map lighting plan)
+abbrev pub plan_lit : Switch → Job → Switch
+plan_lit t job = after_all t (map lighting job.plan.now)
 
-abbrev pub chain_moved : Switch → List Lightpath → List Retuning → Switch
-chain_moved t plan chain = until_refused (plan_lit t plan) (change_over chain)
+abbrev pub chain_moved : Switch → Job → Switch
+chain_moved t job = until_refused (plan_lit t job) (change_over job.chain.now)
 
-abbrev pub other_moved : Switch → List Lightpath → List Retuning → List Retuning → Switch
-other_moved t plan chain other = until_refused (chain_moved t plan chain) (change_over other)
+abbrev pub other_moved : Switch → Job → Switch
+other_moved t job = until_refused (chain_moved t job) (change_over job.other.now)
 
 abbrev pub darkening : Lightpath → Order
 darkening p = darken p.wavelength p.source p.destination
 
-abbrev pub after_job : Switch → List Lightpath → List Retuning → List Retuning → Lightpath → Switch
-after_job t plan chain other last = after (other_moved t plan chain other) (darkening last)
+abbrev pub after_job : Switch → Job → Switch
+after_job t job = after (other_moved t job) (darkening job.last)
 
 -- bytes that hold a switch: at wavelength × groups + destination the source group heard there plus one, or 0; and behind them what was there before
 pub record Holds (t : Switch) (before bytes : List ℕ) : Type 0 where

@@ -14,8 +14,8 @@ use plant::Plant;
 use plant::change_over::Retuning;
 use plant::fabric::RegisterFabric;
 use plant::hub::MirrorHub;
-use plant::refusal::MakingRefusal;
-use plant::slip::Lightpath;
+use plant::lightpath::Lightpath;
+use plant::refusal::{MakingRefusal, PlantRefusal};
 
 const PORTS: [u8; 6] = [2, 2, 2, 2, 2, 2];
 
@@ -88,46 +88,41 @@ const PLAN: [Planned; 8] = [
     },
 ];
 
-fn plan<L: Layout>(layout: &L) -> [Lightpath; 8] {
-    let nothing = Lightpath {
-        wavelength: 0,
-        source: 0,
-        destination: 0,
-    };
-    let mut paths = [nothing; 8];
-    for i in 0..8 {
-        paths[i] = path_of(layout, PLAN[i]);
-    }
-    paths
-}
-
 // Between groups 0, 1 and 2 the two wavelengths are exchanged along a chain of three.
 const CHAIN: [Retuning; 3] = [
     Retuning {
-        wavelength: 0,
-        source: 0,
-        destination: 1,
+        path: Lightpath {
+            wavelength: 0,
+            source: 0,
+            destination: 1,
+        },
         onto: 1,
     },
     Retuning {
-        wavelength: 1,
-        source: 1,
-        destination: 1,
+        path: Lightpath {
+            wavelength: 1,
+            source: 1,
+            destination: 1,
+        },
         onto: 0,
     },
     Retuning {
-        wavelength: 0,
-        source: 1,
-        destination: 2,
+        path: Lightpath {
+            wavelength: 0,
+            source: 1,
+            destination: 2,
+        },
         onto: 1,
     },
 ];
 
 // Its relighting is refused, and its slip is spent all the same.
 const CLASH: [Retuning; 1] = [Retuning {
-    wavelength: 1,
-    source: 0,
-    destination: 1,
+    path: Lightpath {
+        wavelength: 1,
+        source: 0,
+        destination: 1,
+    },
     onto: 0,
 }];
 
@@ -137,77 +132,74 @@ const LAST: Lightpath = Lightpath {
     destination: 2,
 };
 
-fn show_answer(rt: &HostRuntime, what: &str, number: u8) -> anyhow::Result<()> {
-    if number == 0 {
-        println!(rt; "{what}: accepted")?;
-    } else {
-        println!(rt; "{what}: refused with {number}")?;
+// A refusal is shown by its number.
+fn show_answer(rt: &HostRuntime, what: &str, answer: Result<(), u8>) -> anyhow::Result<()> {
+    match answer {
+        Ok(()) => println!(rt; "{what}: accepted")?,
+        Err(number) => println!(rt; "{what}: refused with {number}")?,
     }
     Ok(())
 }
 
-fn layout_number(answer: Result<(), LayoutRefusal>) -> u8 {
-    match answer {
-        Ok(()) => 0,
-        Err(refusal) => refusal.number(),
-    }
-}
-
-fn making_number(answer: Result<(), MakingRefusal>) -> u8 {
-    match answer {
-        Ok(()) => 0,
-        Err(refusal) => refusal.number(),
-    }
-}
-
 fn show_checks(rt: &HostRuntime) -> anyhow::Result<()> {
-    let crowded = check_splitter(&[2, 2, 2, 2, 2, 33], &ENTRIES, BRANCHES);
-    show_answer(
-        rt,
-        "splitter with 33 ports at a site",
-        layout_number(crowded),
-    )?;
-    let astray = check_splitter(&PORTS, &[0, 0, 1, 1, 2, 3], BRANCHES);
-    show_answer(
-        rt,
-        "splitter with a site in branch 3 of 3",
-        layout_number(astray),
-    )?;
-    let good = check_splitter(&PORTS, &ENTRIES, BRANCHES);
-    show_answer(rt, "splitter of 6 sites in 3 branches", layout_number(good))?;
-    show_answer(
-        rt,
-        "hub of no wavelengths",
-        making_number(MirrorHub::check(0, BRANCHES)),
-    )?;
-    show_answer(
-        rt,
-        "hub of 2 wavelengths",
-        making_number(MirrorHub::check(WAVES, BRANCHES)),
-    )?;
-    let short = RegisterFabric::check(WAVES, BRANCHES, &[0; 5]);
-    show_answer(rt, "fabric over 5 registers", making_number(short))?;
-    let ample = RegisterFabric::check(WAVES, BRANCHES, &[0; 8]);
-    show_answer(rt, "fabric over 8 registers", making_number(ample))
+    for (what, answer) in [
+        (
+            "splitter with 33 ports at a site",
+            check_splitter(&[2, 2, 2, 2, 2, 33], &ENTRIES, BRANCHES),
+        ),
+        (
+            "splitter with a site in branch 3 of 3",
+            check_splitter(&PORTS, &[0, 0, 1, 1, 2, 3], BRANCHES),
+        ),
+        (
+            "splitter of 6 sites in 3 branches",
+            check_splitter(&PORTS, &ENTRIES, BRANCHES),
+        ),
+    ] {
+        show_answer(rt, what, answer.map_err(LayoutRefusal::number))?;
+    }
+    for (what, answer) in [
+        ("hub of no wavelengths", MirrorHub::check(0, BRANCHES)),
+        ("hub of 2 wavelengths", MirrorHub::check(WAVES, BRANCHES)),
+        (
+            "fabric over 5 registers",
+            RegisterFabric::check(WAVES, BRANCHES, &[0; 5]),
+        ),
+        (
+            "fabric over 8 registers",
+            RegisterFabric::check(WAVES, BRANCHES, &[0; 8]),
+        ),
+    ] {
+        show_answer(rt, what, answer.map_err(MakingRefusal::number))?;
+    }
+    Ok(())
 }
 
-fn show_path(rt: &HostRuntime, path: Lightpath, number: u8) -> anyhow::Result<()> {
-    let (w, a, b) = (path.wavelength, path.source, path.destination);
-    print!(rt; "  light {w}, group {a} to {b}")?;
-    show_answer(rt, "", number)
+fn show_order(
+    rt: &HostRuntime,
+    what: &str,
+    answer: Result<(), PlantRefusal>,
+) -> anyhow::Result<()> {
+    show_answer(rt, what, answer.map_err(PlantRefusal::number))
 }
 
 fn show_work(rt: &HostRuntime, plan: &[Lightpath], answers: &Answers) -> anyhow::Result<()> {
-    for (path, number) in plan.iter().zip(answers.lit.iter()) {
-        show_path(rt, *path, *number)?;
+    for (path, answer) in plan.iter().zip(answers.lit.iter()) {
+        let Lightpath {
+            wavelength,
+            source,
+            destination,
+        } = *path;
+        print!(rt; "  light {wavelength}, group {source} to {destination}")?;
+        show_order(rt, "", *answer)?;
     }
-    show_answer(
+    show_order(
         rt,
         "  change over a chain of 3 between wavelengths 0 and 1",
         answers.chain,
     )?;
-    show_answer(rt, "  change over 1, group 0 to 1, onto 0", answers.other)?;
-    show_answer(rt, "  take down and retire 1, group 1 to 2", answers.last)
+    show_order(rt, "  change over 1, group 0 to 1, onto 0", answers.other)?;
+    show_order(rt, "  take down and retire 1, group 1 to 2", answers.last)
 }
 
 fn show_heard(rt: &HostRuntime, heard: Option<u8>) -> anyhow::Result<()> {
@@ -249,7 +241,7 @@ fn on_fabric<P: Plant>(
     job: Job,
     hub: &P,
 ) -> anyhow::Result<()>
-    ensures { is_ok result ≡ true → Holds (after_job (dark_switch (served waves groups registers.old waves) (served waves groups registers.old groups)) job.entry.plan.now job.entry.chain.now job.entry.other.now job.entry.last) registers.old registers.new }
+    ensures { is_ok result ≡ true → Holds (after_job (dark_switch (served waves groups registers.old waves) (served waves groups registers.old groups)) job.entry) registers.old registers.new }
 {
     let mut fabric = RegisterFabric::new(registers, waves, groups);
     println!(rt; "register fabric, {waves} wavelengths, {groups} groups")?;
@@ -263,7 +255,7 @@ pub(crate) fn run(rt: &HostRuntime) -> anyhow::Result<()> {
     let layout = Splitter::new(&PORTS, &ENTRIES, BRANCHES);
     let (sites, groups, fibres) = (layout.sites(), layout.groups(), layout.fibres());
     println!(rt; "splitter: {sites} sites, {groups} groups, {fibres} fibres")?;
-    let plan = plan(&layout);
+    let plan = PLAN.map(|session| path_of(&layout, session));
     let job = Job {
         plan: &plan,
         chain: &CHAIN,

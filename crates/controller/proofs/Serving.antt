@@ -1,5 +1,5 @@
 -- What a book answers on paper and a plant carries out is a call of the controller.
-use Rattle.std.proofs.Common.{◌≡◌, ℕ, List, map, length, None, Option, sym, refl, ap, ◌∙◌, subst}
+use Rattle.std.proofs.Common.{◌≡◌, ℕ, List, map, length, None, Option, Err, Result, sym, refl, ap, ◌∙◌, subst}
 use Rattle.network.specs.Network.{Grouped, Separate}
 use Rattle.network.specs.declared.layout.Layout.{Ghosts as LayoutGhosts}
 use Rattle.plant.specs.declared.Plant.{Ghosts as PlantGhosts}
@@ -7,15 +7,19 @@ use Rattle.plant.specs.Orders.{until_refused, Order as Put}
 use Rattle.reckoning.specs.declared.call.Call.{Call}
 use Rattle.reckoning.specs.declared.order.Order.{Order}
 use Rattle.reckoning.specs.declared.session.Session.{Session}
-use Rattle.reckoning.specs.Calls.{Answer, reply}
+use Rattle.reckoning.specs.Calls.{Answer, refused, reply}
 use Rattle.reckoning.specs.Laws.{put, written}
-use Rattle.reckoning.specs.Runs.{Page, rewritten, Moment, Answered}
+use Rattle.sheet.specs.Sheets.{Page, rewritten}
+use Rattle.reckoning.specs.Runs.{Moment, Answered}
 use Rattle.reckoning.proofs.LawOfRuns.{one_call}
 use Rattle.reckoning.proofs.Runs.{Still}
+use Rattle.book.specs.declared.refusal.CallRefusal.{CallRefusal}
 use Rattle.book.specs.Books.{parts_in, standing_in}
 use Rattle.book.specs.Calls.{Booked}
+use Rattle.book.specs.Refusals.{refusal_number}
 use Rattle.controller.specs.declared.controller.Controller.{Controller}
-use Rattle.controller.specs.Service.{Same, Serves, moment}
+use Rattle.controller.specs.declared.answer.Answer.{Answer as Accepted}
+use Rattle.controller.specs.Service.{Same, Serves, answer_of, moment}
 
 module _ {N P : Type 0} (E : LayoutGhosts N) (D : PlantGhosts P) (c c' : Controller N P) (grouped : Grouped (E.network c.layout)) (separate : Separate (E.network c.layout)) where
   -- what is answered keeps the law
@@ -61,6 +65,10 @@ module _ {N P : Type 0} (E : LayoutGhosts N) (D : PlantGhosts P) (c : Controller
 
 pub as_call : {N P : Type 0} (E : LayoutGhosts N) (c : Controller N P) (x y : Call) (a : Answer) (m m' : Moment) → x ≡ y → Serves E c y a m m' → Serves E c x a m m'
 as_call E c x y a m m' e s = subst (λ (z : Call). Serves E c z a m m') (sym e) s
+
+-- a refusal is handed on as it is
+pub as_refused : {N P : Type 0} (E : LayoutGhosts N) (c : Controller N P) (x y : Call) (e : CallRefusal) (r : Result Accepted CallRefusal) (m m' : Moment) → Err e ≡ r → x ≡ y → Serves E c y (refused (refusal_number e)) m m' → Serves E c x (answer_of r) m m'
+as_refused E c x y e r m m' h d s = subst (λ (q : Result Accepted CallRefusal). Serves E c x (answer_of q) m m') h (as_call E c x y (refused (refusal_number e)) m m' d s)
 
 pub same_as : {N P : Type 0} (D : PlantGhosts P) (c : Controller N P) → Same D c c
 same_as D c = record { layout = refl; setting = refl; kept = refl }

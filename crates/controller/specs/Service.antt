@@ -9,7 +9,8 @@ use Rattle.reckoning.specs.declared.order.Order.{Order}
 use Rattle.reckoning.specs.declared.session.Session.{Session}
 use Rattle.reckoning.specs.Calls.{Answer, admitted, quoted, released, found, listed, replies, standing_after}
 use Rattle.reckoning.specs.Parts.{is_dark, parts_told}
-use Rattle.reckoning.specs.Runs.{Page, Moment, room_in, Answered, Step, Run, Start, Lawful}
+use Rattle.sheet.specs.Sheets.{Page}
+use Rattle.reckoning.specs.Runs.{Moment, room_in, Answered, Step, Run, Start, Lawful}
 use Rattle.book.specs.declared.refusal.CallRefusal.{CallRefusal}
 use Rattle.book.specs.Books.{parts_in, standing_in}
 use Rattle.book.specs.Calls.{answered, quote_answer, where_answer, list_answer}
@@ -98,6 +99,8 @@ pub record Served {N P : Type 0} (E : LayoutGhosts N) (c : Controller N P) (call
   pub replied :
       (answers ≡ map (λ y. y.answer) (replies (parts_in c.book) (room_in m) m.standing m.walk calls))
       × (m'.standing ≡ standing_after m.standing (replies (parts_in c.book) (room_in m) m.standing m.walk calls))
+  -- the sheets lie in the memory that they were lent
+  pub lent : (m'.orders.memory ≡ m.orders.memory) × (m'.rows.memory ≡ m.rows.memory)
   -- from a sound start the whole law of runs
   pub lawful : Start (E.network c.layout) (parts_in c.book) m → Lawful (E.network c.layout) (parts_in c.book) calls answers m m'
   -- sessions with a common end group meet in some fibre, as one half of "refused exactly when no table exists" asks

@@ -1,16 +1,17 @@
 //! The five calls.
 ghost use Rattle.std.specs.Prelude.{◌≡◌, IfOk, Some};
 ghost use Rattle.book.specs.Books.{standing_in};
-ghost use Rattle.book.specs.Pages.{page_of};
 ghost use Rattle.reckoning.specs.Lists.{first};
 ghost use Rattle.reckoning.specs.Standing.{bears};
 ghost use Rattle.controller.specs.Service.{Admits, Lists, Locates, Quotes, Releases, Same};
+ghost use Rattle.sheet.specs.Pages.{page_of};
 
 use crate::controller::Controller;
 use crate::drive::darken;
 use book::refusal::CallRefusal;
 use network::layout::Layout;
 use plant::Plant;
+use reckoning::demand::Demand;
 use reckoning::order::Order;
 use reckoning::session::Session;
 use sheet::sheet::Sheet;
@@ -19,18 +20,16 @@ impl<L: Layout + Drop, P: Plant + Drop> Controller<L, P> {
     /// Lets a new session stand, with at most `limit` others moved to another wavelength: its wavelength, and the moves.
     pub fn admit(
         &mut self,
-        number: u32,
-        source: u32,
-        destination: u32,
+        demand: Demand,
         limit: u32,
         orders: &mut Sheet<Order>,
         walk: &mut [u16],
     ) -> Result<(u8, u8), CallRefusal>
         ensures place { orders.new.places.ghost_name ≡ orders.old.places.ghost_name }
         ensures same { Same P.Plant self.old self.new }
-        ensures serves { Admits L.Layout P.Plant self.old self.new number source destination limit result (page_of orders.old) (page_of orders.new) walk.old walk.new }
+        ensures serves { Admits L.Layout P.Plant self.old self.new demand.number demand.source demand.destination limit result (page_of orders.old) (page_of orders.new) walk.old walk.new }
     {
-        self.admit_booked(number, source, destination, limit, orders, walk)
+        self.admit_booked(demand, limit, orders, walk)
     }
 
     /// Ends a session: the wavelength that it gives up.
@@ -45,16 +44,10 @@ impl<L: Layout + Drop, P: Plant + Drop> Controller<L, P> {
     }
 
     /// What an admission without a limit would answer.
-    pub fn quote(
-        &self,
-        number: u32,
-        source: u32,
-        destination: u32,
-        walk: &mut [u16],
-    ) -> Result<(u8, u8), CallRefusal>
-        ensures { Quotes L.Layout P.Plant self.now number source destination result walk.old walk.new }
+    pub fn quote(&self, demand: Demand, walk: &mut [u16]) -> Result<(u8, u8), CallRefusal>
+        ensures { Quotes L.Layout P.Plant self.now demand.number demand.source demand.destination result walk.old walk.new }
     {
-        self.quote_booked(number, source, destination, walk)
+        self.quote_booked(demand, walk)
     }
 
     /// The session of this number: its wavelength and both sites.

@@ -4,6 +4,7 @@ ghost use Rattle.plant.specs.Orders.{after, answer_to};
 ghost use Rattle.reckoning.specs.Laws.{put};
 
 use plant::Plant;
+use plant::lightpath::Lightpath;
 use plant::refusal::PlantRefusal;
 use reckoning::order::{Kind, Order};
 
@@ -13,8 +14,13 @@ pub fn carry_out<P: Plant>(order: Order, plant: &mut P) -> Result<(), PlantRefus
     ensures after { P.state plant.new ≡ after (P.state plant.old) (put order) }
     ensures kept { P.kept plant.new ≡ P.kept plant.old }
 {
+    let path = Lightpath {
+        wavelength: order.wavelength,
+        source: order.source,
+        destination: order.destination,
+    };
     match order.kind {
-        Kind::Darken => plant.darken(order.wavelength, order.source, order.destination),
-        Kind::Light => plant.light(order.wavelength, order.source, order.destination),
+        Kind::Darken => plant.darken(path),
+        Kind::Light => plant.light(path),
     }
 }

@@ -1,7 +1,7 @@
 //! A list of calls, served in turn, with the law that every such list keeps.
 ghost use Rattle.std.specs.Prelude.{◌≡◌, map, MatchResult};
-ghost use Rattle.book.specs.Pages.{page_of};
 ghost use Rattle.controller.specs.Service.{Same, Served, Serves, answer_of, moment};
+ghost use Rattle.sheet.specs.Pages.{page_of};
 
 use crate::answer::Answer;
 use crate::controller::Controller;
@@ -9,6 +9,7 @@ use book::refusal::CallRefusal;
 use network::layout::Layout;
 use plant::Plant;
 use reckoning::call::Call;
+use reckoning::demand::Demand;
 use reckoning::order::Order;
 use reckoning::session::Session;
 use sheet::sheet::Sheet;
@@ -27,46 +28,56 @@ impl<L: Layout + Drop, P: Plant + Drop> Controller<L, P> {
         ensures same { Same P.Plant self.old self.new }
         ensures serves { Serves L.Layout self.old call (answer_of result) (moment P.Plant self.old (page_of orders.old) (page_of rows.old) walk.old) (moment P.Plant self.new (page_of orders.new) (page_of rows.new) walk.new) }
     {
-        match call {
+        Ok(match call {
             Call::Admit {
                 number,
                 source,
                 destination,
                 limit,
-            } => match self.admit(number, source, destination, limit, orders, walk) {
-                Ok((wavelength, moves)) => Ok(Answer::Admitted { wavelength, moves }),
-                Err(refusal) => Err(refusal),
-            },
-            Call::Release { number } => match self.release(number, orders) {
-                Ok(wavelength) => Ok(Answer::Released { wavelength }),
-                Err(refusal) => Err(refusal),
-            },
+            } => {
+                let demand = Demand {
+                    number,
+                    source,
+                    destination,
+                };
+                let (wavelength, moves) = self.admit(demand, limit, orders, walk)?;
+                Answer::Admitted { wavelength, moves }
+            }
+            Call::Release { number } => {
+                let wavelength = self.release(number, orders)?;
+                Answer::Released { wavelength }
+            }
             Call::Quote {
                 number,
                 source,
                 destination,
-            } => match self.quote(number, source, destination, walk) {
-                Ok((wavelength, moves)) => Ok(Answer::Quoted { wavelength, moves }),
-                Err(refusal) => Err(refusal),
-            },
-            Call::Where { number } => match self.locate(number) {
-                Ok(s) => Ok(Answer::Found {
+            } => {
+                let demand = Demand {
+                    number,
+                    source,
+                    destination,
+                };
+                let (wavelength, moves) = self.quote(demand, walk)?;
+                Answer::Quoted { wavelength, moves }
+            }
+            Call::Where { number } => {
+                let s = self.locate(number)?;
+                Answer::Found {
                     wavelength: s.wavelength,
                     source: s.source,
                     destination: s.destination,
-                }),
-                Err(refusal) => Err(refusal),
-            },
-            Call::List => match self.list(rows) {
-                Ok(count) => Ok(Answer::Listed { rows: count }),
-                Err(refusal) => Err(refusal),
-            },
-        }
+                }
+            }
+            Call::List => {
+                let rows = self.list(rows)?;
+                Answer::Listed { rows }
+            }
+        })
     }
 
     fn serve_each(
         &mut self,
-        heap: Global,
+        alloc: Global,
         calls: &[Call],
         orders: &mut Sheet<Order>,
         rows: &mut Sheet<Session>,
@@ -77,7 +88,7 @@ impl<L: Layout + Drop, P: Plant + Drop> Controller<L, P> {
         ensures same { Same P.Plant self.old self.new }
         ensures served { MatchResult result (λ answers. Served L.Layout self.old calls.now (map answer_of answers.items) (moment P.Plant self.old (page_of orders.old) (page_of rows.old) walk.old) (moment P.Plant self.new (page_of orders.new) (page_of rows.new) walk.new)) (λ _. moment P.Plant self.new (page_of orders.new) (page_of rows.new) walk.new ≡ moment P.Plant self.old (page_of orders.old) (page_of rows.old) walk.old) }
     {
-        let mut answers = Vec::with_capacity(heap, calls.len())?;
+        let mut answers = Vec::with_capacity(alloc, calls.len())?;
         for call in calls {
             answers.push_reserved(self.serve_one(*call, orders, rows, walk));
         }
@@ -87,7 +98,7 @@ impl<L: Layout + Drop, P: Plant + Drop> Controller<L, P> {
     /// Serves the calls in turn, and gives their answers. Where memory for these is not found, nothing is served.
     pub fn serve(
         &mut self,
-        heap: Global,
+        alloc: Global,
         calls: &[Call],
         orders: &mut Sheet<Order>,
         rows: &mut Sheet<Session>,
@@ -98,6 +109,6 @@ impl<L: Layout + Drop, P: Plant + Drop> Controller<L, P> {
         ensures same { Same P.Plant self.old self.new }
         ensures served { MatchResult result (λ answers. Served L.Layout self.old calls.now (map answer_of answers.items) (moment P.Plant self.old (page_of orders.old) (page_of rows.old) walk.old) (moment P.Plant self.new (page_of orders.new) (page_of rows.new) walk.new)) (λ _. moment P.Plant self.new (page_of orders.new) (page_of rows.new) walk.new ≡ moment P.Plant self.old (page_of orders.old) (page_of rows.old) walk.old) }
     {
-        self.serve_each(heap, calls, orders, rows, walk)
+        self.serve_each(alloc, calls, orders, rows, walk)
     }
 }

@@ -1,17 +1,22 @@
 //! The worked cases and edges, on stars and splitters, on hubs and fabrics alike.
-use crate::made::{splitter_on_fabric, splitter_on_hub, star_on_fabric, star_on_hub};
+use crate::lent::write_first;
+use crate::made::{on_fabric, on_hub};
 use book::refusal::CallRefusal;
 use controller::answer::Answer;
 use controller::controller::Controller;
 use controller::orders::carry_out;
 use network::layout::Layout;
+use network::splitter::Splitter;
 use network::star::Star;
 use plant::Plant;
 use plant::fabric::RegisterFabric;
 use plant::hub::MirrorHub;
+use plant::lightpath::Lightpath;
 use reckoning::call::Call;
+use reckoning::demand::Demand;
 use reckoning::order::{Kind, Order};
 use reckoning::session::Session;
+use sheet::refusal::SheetRefusal;
 use sheet::sheet::Sheet;
 use std::alloc::Global;
 use std::process::Abort;
@@ -19,27 +24,20 @@ use std::test::Fail;
 
 type Outcome = Result<Answer, CallRefusal>;
 
-const NO_ORDER: Order = Order {
-    kind: Kind::Darken,
-    wavelength: 0,
-    source: 0,
-    destination: 0,
-    session: 0,
-};
-
-const NO_SESSION: Session = Session {
-    number: 0,
-    source: 0,
-    destination: 0,
-    wavelength: 0,
-};
-
 fn add(number: u32, source: u32, destination: u32, limit: u32) -> Call {
     Call::Admit {
         number,
         source,
         destination,
         limit,
+    }
+}
+
+fn asked(number: u32, source: u32, destination: u32) -> Demand {
+    Demand {
+        number,
+        source,
+        destination,
     }
 }
 
@@ -70,14 +68,10 @@ fn agrees<L: Layout + Drop, P: Plant + Drop, Q: Plant>(
     }
 }
 
-fn carries_out<Q: Plant>(rt: &impl Abort, orders: &Sheet<Order>, copy: &mut Q) -> Result<(), Fail> {
-    for i in 0..orders.len() {
-        match orders.read(i) {
-            Ok(order) => assert_eq!(rt; carry_out(order, copy), Ok(())),
-            Err(_) => return Err(Fail::new("an order that cannot be read")),
-        }
+fn carries_out<Q: Plant>(rt: &impl Abort, orders: &Sheet<Order>, copy: &mut Q) {
+    for order in orders.as_slice() {
+        assert_eq!(rt; carry_out(*order, copy), Ok(()));
     }
-    Ok(())
 }
 
 /// Calls with their answers; what the last call leaves in the order sheet and the walk list.
@@ -90,16 +84,11 @@ struct Case<'a> {
 }
 
 fn written(rt: &impl Abort, orders: &Sheet<Order>, wanted: &[Order]) {
-    assert_eq!(rt; orders.len(), wanted.len());
-    for (i, o) in wanted.iter().enumerate() {
-        assert_eq!(rt; orders.read(i).ok(), Some(*o));
-    }
+    assert!(rt; orders.as_slice() == wanted);
 }
 
 fn walked(rt: &impl Abort, walk: &[u16], wanted: &[u16]) {
-    for (i, code) in wanted.iter().enumerate() {
-        assert_eq!(rt; walk.get(i).copied(), Some(*code));
-    }
+    assert!(rt; walk.starts_with(wanted));
     assert_eq!(rt;
         walk.get(wanted.len()).copied(),
         Some(99),
@@ -109,7 +98,7 @@ fn walked(rt: &impl Abort, walk: &[u16], wanted: &[u16]) {
 
 fn serves_each<L: Layout + Drop, P: Plant + Drop, Q: Plant>(
     rt: &impl Abort,
-    heap: Global,
+    alloc: Global,
     controller: &mut Controller<L, P>,
     copy: &mut Q,
     case: &Case,
@@ -117,15 +106,12 @@ fn serves_each<L: Layout + Drop, P: Plant + Drop, Q: Plant>(
     rows: &mut Sheet<Session>,
     walk: &mut [u16],
 ) -> Result<(), Fail> {
-    for (i, call) in case.calls.iter().enumerate() {
+    assert_eq!(rt; case.calls.len(), case.answers.len());
+    for (call, answer) in case.calls.iter().zip(case.answers) {
         orders.clear();
-        let one = [*call];
-        let answers = controller.serve(heap, &one, orders, rows, walk)?;
-        assert_eq!(rt;
-            answers.as_slice().first().copied(),
-            case.answers.get(i).copied()
-        );
-        carries_out(rt, orders, copy)?;
+        let answers = controller.serve(alloc, &[*call], orders, rows, walk)?;
+        assert_eq!(rt; answers.as_slice().first(), Some(answer));
+        carries_out(rt, orders, copy);
         agrees(rt, controller, copy);
     }
     Ok(())
@@ -133,19 +119,19 @@ fn serves_each<L: Layout + Drop, P: Plant + Drop, Q: Plant>(
 
 fn serves<L: Layout + Drop, P: Plant + Drop, Q: Plant + Drop>(
     rt: &impl Abort,
-    heap: Global,
+    alloc: Global,
     mut controller: Controller<L, P>,
     mut copy: Q,
     case: &Case,
 ) -> Result<(), Fail> {
-    let mut order_places = [NO_ORDER; 63];
-    let mut row_places = [NO_SESSION; 32];
+    let mut order_places = [Order::default(); 63];
+    let mut row_places = [Session::default(); 32];
     let mut walk = [99u16; 64];
     let mut orders = Sheet::new(&mut order_places);
     let mut rows = Sheet::new(&mut row_places);
     serves_each(
         rt,
-        heap,
+        alloc,
         &mut controller,
         &mut copy,
         case,
@@ -158,44 +144,48 @@ fn serves<L: Layout + Drop, P: Plant + Drop, Q: Plant + Drop>(
     Ok(())
 }
 
-// A star under both makes, each with the other as its copy.
-fn on_star(
+// Under both makes, each with the other as its copy. The layout is made twice, since a controller holds its own.
+fn on_both<L: Layout + Drop>(
     rt: &impl Abort,
-    heap: Global,
-    ports: &[u8],
+    alloc: Global,
+    layouts: [L; 2],
     waves: u8,
-    groups: u8,
     case: &Case,
 ) -> Result<(), Fail> {
+    let [first, second] = layouts;
+    let groups = first.groups();
     let mut registers = [7u8; 1024];
     let copy = RegisterFabric::new(&mut registers, waves, groups);
-    serves(rt, heap, star_on_hub(ports, waves), copy, case)?;
+    serves(rt, alloc, on_hub(first, waves), copy, case)?;
     let mut registers = [7u8; 1024];
-    let controller = star_on_fabric(ports, waves, &mut registers);
-    serves(rt, heap, controller, MirrorHub::new(waves, groups), case)
+    let controller = on_fabric(second, waves, &mut registers);
+    serves(rt, alloc, controller, MirrorHub::new(waves, groups), case)
+}
+
+fn on_star(
+    rt: &impl Abort,
+    alloc: Global,
+    ports: &[u8],
+    waves: u8,
+    case: &Case,
+) -> Result<(), Fail> {
+    on_both(rt, alloc, [Star::new(ports), Star::new(ports)], waves, case)
 }
 
 fn on_splitter(
     rt: &impl Abort,
-    heap: Global,
+    alloc: Global,
     ports: &[u8],
     entries: &[u8],
     branches: u8,
     waves: u8,
     case: &Case,
 ) -> Result<(), Fail> {
-    let mut registers = [7u8; 1024];
-    let copy = RegisterFabric::new(&mut registers, waves, branches);
-    serves(
-        rt,
-        heap,
-        splitter_on_hub(ports, entries, branches, waves),
-        copy,
-        case,
-    )?;
-    let mut registers = [7u8; 1024];
-    let controller = splitter_on_fabric(ports, entries, branches, waves, &mut registers);
-    serves(rt, heap, controller, MirrorHub::new(waves, branches), case)
+    let layouts = [
+        Splitter::new(ports, entries, branches),
+        Splitter::new(ports, entries, branches),
+    ];
+    on_both(rt, alloc, layouts, waves, case)
 }
 
 #[test]
@@ -235,7 +225,7 @@ fn a_chain_moves(rt: HostRuntime) -> Result<(), Fail> {
         ],
         walk: &[35, 0, 1],
     };
-    on_star(&rt, rt.alloc(), &[2, 2, 2, 2], 2, 4, &case)
+    on_star(&rt, rt.alloc(), &[2, 2, 2, 2], 2, &case)
 }
 
 #[test]
@@ -262,7 +252,7 @@ fn the_source_chain_moves_on_a_tie(rt: HostRuntime) -> Result<(), Fail> {
         ],
         walk: &[32, 2],
     };
-    on_star(&rt, rt.alloc(), &[2, 2, 2, 2], 2, 4, &case)
+    on_star(&rt, rt.alloc(), &[2, 2, 2, 2], 2, &case)
 }
 
 #[test]
@@ -297,7 +287,7 @@ fn three_move_at_once(rt: HostRuntime) -> Result<(), Fail> {
         ],
         walk: &[32, 2, 34, 1, 33, 3],
     };
-    on_star(&rt, rt.alloc(), &[2, 2, 2, 2], 2, 4, &case)
+    on_star(&rt, rt.alloc(), &[2, 2, 2, 2], 2, &case)
 }
 
 #[test]
@@ -322,7 +312,7 @@ fn no_third_wavelength_is_needed(rt: HostRuntime) -> Result<(), Fail> {
         orders: &[order(Kind::Light, 1, 2, 1, 6)],
         walk: &[1, 34, 32, 0],
     };
-    on_star(&rt, rt.alloc(), &[2, 2, 2], 2, 3, &case)
+    on_star(&rt, rt.alloc(), &[2, 2, 2], 2, &case)
 }
 
 #[test]
@@ -361,7 +351,7 @@ fn ten_sessions_of_five_sites(rt: HostRuntime) -> Result<(), Fail> {
         orders: &[],
         walk: &[33, 0, 32, 3, 35, 4, 2],
     };
-    on_star(&rt, rt.alloc(), &[2; 5], 2, 5, &case)
+    on_star(&rt, rt.alloc(), &[2; 5], 2, &case)
 }
 
 #[test]
@@ -400,7 +390,7 @@ fn one_wavelength(rt: HostRuntime) -> Result<(), Fail> {
         orders: &[order(Kind::Light, 0, 1, 2, 2)],
         walk: &[],
     };
-    on_star(&rt, rt.alloc(), &[2, 2, 2], 1, 3, &case)
+    on_star(&rt, rt.alloc(), &[2, 2, 2], 1, &case)
 }
 
 #[test]
@@ -437,28 +427,28 @@ fn questions_come_in_their_order(rt: HostRuntime) -> Result<(), Fail> {
         orders: &[],
         walk: &[],
     };
-    on_star(&rt, rt.alloc(), &[1, 1, 1], 2, 3, &case)
+    on_star(&rt, rt.alloc(), &[1, 1, 1], 2, &case)
 }
 
 #[test]
 fn room_is_asked_in_places(rt: HostRuntime) {
-    let mut controller = star_on_hub(&[1, 1, 1], 2);
-    let mut few = [NO_ORDER; 4];
-    let mut five = [NO_ORDER; 5];
+    let mut controller = on_hub(Star::new(&[1, 1, 1]), 2);
+    let mut few = [Order::default(); 4];
+    let mut five = [Order::default(); 5];
     let mut three = [0u16; 3];
     let mut walk = [0u16; 4];
     let mut short = Sheet::new(&mut few);
     let mut orders = Sheet::new(&mut five);
     assert_eq!(rt;
-        controller.admit(1, 0, 1, 2, &mut short, &mut three),
+        controller.admit(asked(1, 0, 1), 2, &mut short, &mut three),
         Err(CallRefusal::OrderRoom)
     );
     assert_eq!(rt;
-        controller.admit(1, 0, 1, 2, &mut orders, &mut three),
+        controller.admit(asked(1, 0, 1), 2, &mut orders, &mut three),
         Err(CallRefusal::WalkRoom)
     );
     assert_eq!(rt;
-        controller.admit(1, 0, 1, 2, &mut orders, &mut walk),
+        controller.admit(asked(1, 0, 1), 2, &mut orders, &mut walk),
         Ok((0, 0))
     );
     let mut none: [Order; 0] = [];
@@ -482,7 +472,12 @@ fn parts_that_do_not_fit_refuse_first(rt: HostRuntime) {
         Err(CallRefusal::Unfit)
     );
     let mut hub = MirrorHub::new(2, 3);
-    assert_eq!(rt; hub.light(1, 0, 2), Ok(()));
+    let path = Lightpath {
+        wavelength: 1,
+        source: 0,
+        destination: 2,
+    };
+    assert_eq!(rt; hub.light(path), Ok(()));
     let lit = Controller::new(Star::new(&[1, 1, 1]), hub);
     assert_eq!(rt;
         lit.list(&mut Sheet::new(&mut none)),
@@ -492,36 +487,34 @@ fn parts_that_do_not_fit_refuse_first(rt: HostRuntime) {
 
 #[test]
 fn rows_come_by_wavelength_then_group(rt: HostRuntime) {
-    let mut controller = star_on_hub(&[2, 2, 2], 2);
-    let mut places = [NO_ORDER; 5];
+    let mut controller = on_hub(Star::new(&[2, 2, 2]), 2);
+    let mut places = [Order::default(); 5];
     let mut orders = Sheet::new(&mut places);
     let mut walk = [0u16; 4];
     assert_eq!(rt;
-        controller.admit(9, 2, 1, 2, &mut orders, &mut walk),
+        controller.admit(asked(9, 2, 1), 2, &mut orders, &mut walk),
         Ok((0, 0))
     );
     assert_eq!(rt;
-        controller.admit(8, 2, 0, 2, &mut orders, &mut walk),
+        controller.admit(asked(8, 2, 0), 2, &mut orders, &mut walk),
         Ok((1, 0))
     );
     assert_eq!(rt;
-        controller.admit(7, 1, 2, 2, &mut orders, &mut walk),
+        controller.admit(asked(7, 1, 2), 2, &mut orders, &mut walk),
         Ok((0, 0))
     );
-    let mut row_places = [NO_SESSION; 4];
+    let mut row_places = [Session::default(); 4];
     let mut rows = Sheet::new(&mut row_places);
     assert_eq!(rt; controller.list(&mut rows), Ok(3));
-    assert_eq!(rt; numbers(&rows), (7, 9, 8));
+    assert!(rt; rows.as_slice().iter().map(|s| s.number).eq([7, 9, 8]));
+    assert_eq!(rt; rows.read(2).map(|s| s.number), Ok(8));
+    assert_eq!(rt; rows.read(3), Err(SheetRefusal::Unwritten));
 }
 
-// The numbers of the first three rows.
-fn numbers(rows: &Sheet<Session>) -> (u32, u32, u32) {
-    (number_at(rows, 0), number_at(rows, 1), number_at(rows, 2))
-}
-
-fn number_at(rows: &Sheet<Session>, i: usize) -> u32 {
-    match rows.read(i) {
-        Ok(s) => s.number,
-        Err(_) => 0,
-    }
+#[test]
+fn orders_stay_where_they_were_written(rt: HostRuntime) {
+    let mut places = [Order::default(); 2];
+    let first = order(Kind::Light, 1, 2, 3, 4);
+    write_first(&mut places, first);
+    assert_eq!(rt; places, [first, Order::default()]);
 }

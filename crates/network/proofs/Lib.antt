@@ -1,3 +1,2 @@
 -- The lemmas, by subject.
 pub mod Laws
-pub mod Ranges

@@ -1,5 +1,6 @@
 -- What the check of a layout's lists answers.
-use Rattle.std.specs.Prelude.{ℕ, ◌-◌, Bool, true, cond, ◌&&◌, List, [], ◌∷◌, length, Ok, Err, Result, ◌==◌, nat_le}
+use Rattle.std.specs.Prelude.{ℕ, Bool, cond, ◌&&◌, List, length, Ok, Err, Result, ◌==◌, nat_le, nat_lt}
+use Rattle.std.specs.List.{list_all}
 use Rattle.network.specs.declared.refusal.LayoutRefusal.{LayoutRefusal}
 use Rattle.network.specs.declared.refusal.LayoutRefusal.TheVariants.{SiteCount, PortCount, BranchEntries, BranchCount, BranchNumber}
 
@@ -14,10 +15,9 @@ refusal_number BranchNumber = 55
 abbrev pub between : ℕ → ℕ → ℕ → Bool
 between least most n = nat_le least n && nat_le n most
 
--- each number of the list is between the two
-abbrev pub all_between : ℕ → ℕ → List ℕ → Bool
-all_between least most [] = true
-all_between least most (n ∷ ns) = between least most n && all_between least most ns
+-- a site has 1 to 32 ports
+abbrev pub all_ported : List ℕ → Bool
+all_ported ports = list_all (between 1 32) ports
 
 -- what the check answers
 abbrev pub Verdict : Type 0
@@ -27,18 +27,18 @@ Verdict = Result (Unit {0}) LayoutRefusal
 abbrev pub ask : Bool → LayoutRefusal → Verdict → Verdict
 ask holds refusal next = cond holds next (Err refusal)
 
+-- what every layout is asked first: 2 to `most` sites, with 1 to 32 ports each
+abbrev pub sites_verdict : ℕ → List ℕ → Verdict → Verdict
+sites_verdict most ports next = ask (between 2 most (length ports)) SiteCount (ask (all_ported ports) PortCount next)
+
 abbrev pub star_verdict : List ℕ → Verdict
-star_verdict ports =
-    ask (between 2 32 (length ports)) SiteCount
-    (ask (all_between 1 32 ports) PortCount
-    (Ok tt))
+star_verdict ports = sites_verdict 32 ports (Ok tt)
 
 -- entries: the branch of each site, from 0 to branches - 1
 abbrev pub splitter_verdict : List ℕ → List ℕ → ℕ → Verdict
 splitter_verdict ports entries branches =
-    ask (between 2 128 (length ports)) SiteCount
-    (ask (all_between 1 32 ports) PortCount
+    sites_verdict 128 ports
     (ask (length entries == length ports) BranchEntries
     (ask (between 1 32 branches) BranchCount
-    (ask (all_between 0 (branches - 1) entries) BranchNumber
-    (Ok tt)))))
+    (ask (list_all (λ e. nat_lt e branches) entries) BranchNumber
+    (Ok tt))))

@@ -2,7 +2,6 @@
 pub mod Checks
 pub mod Network
 -- The proofs of the laws of layouts, which an `impl` can cite from here alone.
-pub mod Ranges
 pub mod Verdicts
 pub mod Lit
 pub mod Stars

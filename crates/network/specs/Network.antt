@@ -1,5 +1,6 @@
 -- What a layout means, and the laws that every layout keeps; the meaning of a star and of a splitter.
-use Rattle.std.specs.Prelude.{◌≡◌, ℕ, ◌+◌, ◌*◌, ◌<◌, ◌≤◌, Bool, true, false, cond, not, ◌&&◌, ◌||◌, ◌⊎◌, List, length, take, is_ok, ◌==◌, ◌≢◌, nat_lt, slice_index, slice_index_or}
+use Rattle.std.specs.Prelude.{◌≡◌, ℕ, ◌+◌, ◌*◌, ◌<◌, ◌≤◌, Bool, true, false, cond, not, ◌&&◌, ◌||◌, ◌⊎◌, List, map, length, is_ok, ◌==◌, ◌≢◌, nat_lt, slice_index, slice_index_or}
+use Rattle.network.specs.declared.splitter.Site.{Site}
 use Rattle.network.specs.Checks.{star_verdict, splitter_verdict}
 
 -- lights s d f: the session from s to d lights the fibre f
@@ -74,6 +75,13 @@ star ports =
       lights = λ s d f. two_sites (length ports) s d && up_or_down 0 s d f;
     }
 
+-- the ports of each site of a splitter, and its branch
+abbrev pub ports_of : List Site → List ℕ
+ports_of sites = map (λ s. s.ports) sites
+
+abbrev pub entries_of : List Site → List ℕ
+entries_of sites = map (λ s. s.branch) sites
+
 -- entries: the branch of each site; the trunks' fibres come after the sites'
 abbrev pub splitter : List ℕ → List ℕ → ℕ → Network
 splitter ports entries branches =
@@ -95,13 +103,6 @@ star_network ports = cond (is_ok (star_verdict ports)) (star ports) empty_networ
 abbrev pub splitter_network : List ℕ → List ℕ → ℕ → Network
 splitter_network ports entries branches =
     cond (is_ok (splitter_verdict ports entries branches)) (splitter ports entries branches) empty_network
-
--- what is stored: the first `sites` numbers of each list
-abbrev pub star_stored : ℕ → List ℕ → Network
-star_stored sites ports = star (take sites ports)
-
-abbrev pub splitter_stored : ℕ → List ℕ → List ℕ → ℕ → Network
-splitter_stored sites ports entries branches = splitter (take sites ports) (take sites entries) branches
 
 -- what is stored is nothing, or passes the check
 abbrev pub sound_star : List ℕ → Bool

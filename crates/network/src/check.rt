@@ -1,6 +1,7 @@
 //! The check of the lists that a layout is made of: the first question that fails answers.
-ghost use Rattle.std.specs.Prelude.{◌≡◌, if◌then◌else◌, Ok, Err};
-ghost use Rattle.network.specs.Checks.{between, all_between, star_verdict, splitter_verdict};
+ghost use Rattle.std.specs.Prelude.{◌≡◌, nat_lt};
+ghost use Rattle.std.specs.List.{list_all};
+ghost use Rattle.network.specs.Checks.{sites_verdict, all_ported, star_verdict, splitter_verdict};
 
 use crate::refusal::LayoutRefusal;
 
@@ -14,57 +15,52 @@ pub const SPLITTER_SITES: usize = 128;
 pub const PORTS: u8 = 32;
 
 /// The most branches of a splitter.
-pub const BRANCHES: usize = 32;
+pub const BRANCHES: u8 = 32;
 
 pub fn check_star(ports: &[u8]) -> Result<(), LayoutRefusal>
     ensures { result ≡ star_verdict ports.now }
 {
-    ask(
-        between(2, STAR_SITES, ports.len()),
-        LayoutRefusal::SiteCount,
-    )?;
-    ask(all_between(1, PORTS, ports), LayoutRefusal::PortCount)
+    check_sites(STAR_SITES, ports)
 }
 
 /// `entries` has the branch of each site.
 pub fn check_splitter(ports: &[u8], entries: &[u8], branches: u8) -> Result<(), LayoutRefusal>
     ensures { result ≡ splitter_verdict ports.now entries.now branches }
 {
-    ask(
-        between(2, SPLITTER_SITES, ports.len()),
-        LayoutRefusal::SiteCount,
-    )?;
-    ask(all_between(1, PORTS, ports), LayoutRefusal::PortCount)?;
-    ask(entries.len() == ports.len(), LayoutRefusal::BranchEntries)?;
-    ask(
-        between(1, BRANCHES, branches as usize),
-        LayoutRefusal::BranchCount,
-    )?;
-    ask(
-        all_between(0, branches - 1, entries),
-        LayoutRefusal::BranchNumber,
-    )
-}
-
-fn ask(holds: bool, refusal: LayoutRefusal) -> Result<(), LayoutRefusal>
-    ensures { result ≡ (if holds then Ok tt else Err refusal) }
-{
-    if holds { Ok(()) } else { Err(refusal) }
-}
-
-fn between(least: usize, most: usize, n: usize) -> bool
-    ensures { result ≡ between least most n }
-{
-    least <= n && n <= most
-}
-
-fn all_between(least: u8, most: u8, numbers: &[u8]) -> bool
-    ensures { result ≡ all_between least most numbers.now }
-{
-    for n in numbers {
-        if !between(least as usize, most as usize, *n as usize) {
-            return false;
-        }
+    check_sites(SPLITTER_SITES, ports)?;
+    if entries.len() != ports.len() {
+        return Err(LayoutRefusal::BranchEntries);
     }
-    true
+    if !(1..=BRANCHES).contains(&branches) {
+        return Err(LayoutRefusal::BranchCount);
+    }
+    if !all_below(branches, entries) {
+        return Err(LayoutRefusal::BranchNumber);
+    }
+    Ok(())
+}
+
+/// What every layout is asked first: are there 2 to `most` sites, with 1 to 32 ports each?
+fn check_sites(most: usize, ports: &[u8]) -> Result<(), LayoutRefusal>
+    ensures { result ≡ sites_verdict most ports.now (Ok tt) }
+{
+    if !(2..=most).contains(&ports.len()) {
+        return Err(LayoutRefusal::SiteCount);
+    }
+    if !all_ported(ports) {
+        return Err(LayoutRefusal::PortCount);
+    }
+    Ok(())
+}
+
+fn all_ported(ports: &[u8]) -> bool
+    ensures { result ≡ all_ported ports.now }
+{
+    ports.iter().all(|count| (1..=PORTS).contains(count))
+}
+
+fn all_below(branches: u8, entries: &[u8]) -> bool
+    ensures { result ≡ list_all (λ e. nat_lt e branches) entries.now }
+{
+    entries.iter().all(|entry| *entry < branches)
 }

@@ -7,6 +7,5 @@ mod path;
 pub mod refusal;
 pub mod splitter;
 pub mod star;
-mod stored;
 #[cfg(test)]
 mod tests;

@@ -17,12 +17,8 @@ fn answer(verdict: Result<(), LayoutRefusal>) -> u8 {
 
 /// Of all fibres, the session lights just these.
 fn lights_just<L: Layout>(layout: &L, source: u8, destination: u8, fibres: &[u16]) -> bool {
-    for fibre in 0..layout.fibres() {
-        if layout.lights(source, destination, fibre) != fibres.contains(&fibre) {
-            return false;
-        }
-    }
-    true
+    (0..layout.fibres()).all(|fibre| layout.lights(source, destination, fibre)
+        == fibres.contains(&fibre))
 }
 
 /// Two sessions that light one fibre share a group at one end, and two from one site light some fibre in common.
@@ -37,7 +33,7 @@ fn both_light<L: Layout>(
     ensures shared { result ≡ true → ((L.network layout.now).group source ≡ (L.network layout.now).group source2) ⊎ ((L.network layout.now).group destination ≡ (L.network layout.now).group destination2) }
     ensures meets { Ends (L.network layout.now).sites source destination → Ends (L.network layout.now).sites source destination2 → (f : ℕ) × ((L.network layout.now).lights source destination f ≡ true) × ((L.network layout.now).lights source destination2 f ≡ true) }
 {
-    layout.lights(source, destination, fibre) & layout.lights(source2, destination2, fibre)
+    layout.lights(source, destination, fibre) && layout.lights(source2, destination2, fibre)
 }
 
 #[test]

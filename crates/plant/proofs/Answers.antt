@@ -1,9 +1,9 @@
 -- What an accepted order tells of the plant before it and after it.
 use Rattle.std.proofs.Common.{◌≡◌, ℕ, ◌<◌, Bool, true, false, cond, is_some, is_ok, Some, None, Ok, Err, Option, Result, sym, refl, ap, ◌∙◌, arith}
-use Rattle.std.proofs.lemmas.Bool.{ltb-true, eqb-true, ne_eqb, and_parts, cond-true, and_from}
+use Rattle.std.proofs.lemmas.Bool.{lt-ltb, ltb-true, eq-eqb, eqb-true, ne_eqb, and_parts, cond-true, and_from}
 use Rattle.plant.specs.declared.refusal.PlantRefusal.{PlantRefusal}
 use Rattle.plant.specs.declared.refusal.PlantRefusal.TheVariants.{NoWavelength, NoGroup, SourceLit, DestinationLit, NotHeard}
-use Rattle.plant.specs.Switch.{Switch, is_from, steered, first, tuned, light_verdict, darken_verdict, light_answer, darken_answer, lit_after, dark_after}
+use Rattle.plant.specs.Switch.{Switch, is_from, steered, first, tuned, light_answer, darken_answer, lit_after, dark_after}
 
 pub record Lightable (t : Switch) (w a b : ℕ) : Type 0 where
   pub wave : w < t.waves
@@ -46,6 +46,9 @@ pub from_there : (o : Option ℕ) (a : ℕ) → is_from o a ≡ true → o ≡ S
 from_there None a e = absurd (let z : ◌≡◌ {A = Bool} false true = e in let y : ◌≡◌ {A = ℕ} 0 1 = cc in omega arith)
 from_there (Some x) a e = ap Some (eqb-true x a e)
 
+pub is_it : (o : Option ℕ) (a : ℕ) → o ≡ Some a → is_from o a ≡ true
+is_it o a e = ap (λ (p : Option ℕ). is_from p a) e ∙ eq-eqb a a refl
+
 pub not_from : (o : Option ℕ) (a : ℕ) → (o ≡ Some a → ⊥) → is_from o a ≡ false
 not_from None a h = refl
 not_from (Some x) a h = ne_eqb x a (λ e. h (ap Some e))
@@ -82,12 +85,6 @@ lit t w a b e = ap (λ (h : ℕ → ℕ → Option ℕ). record { waves = t.wave
 pub darkened : (t : Switch) (w a b : ℕ) → darken_answer t w a b ≡ Ok tt → put t w b None ≡ dark_after t w a b
 darkened t w a b e = ap (λ (h : ℕ → ℕ → Option ℕ). record { waves = t.waves; groups = t.groups; hears = h }) (sym (cond-true _ _ _ (ap is_ok e)))
 
--- the questions, put with what the plant tells
-module _ (t : Switch) (w a b n g : ℕ) (en : n ≡ t.waves) (eg : g ≡ t.groups) (heard : Option ℕ) (eh : heard ≡ t.hears w b) where
-  pub asked_light : (told : Option ℕ) → told ≡ steered t w a → light_verdict n g w a b (is_some told) (is_some heard) ≡ light_answer t w a b
-  unfolding light_answer
-  asked_light told e = λ i. light_verdict (en i) (eg i) w a b (is_some (e i)) (is_some (eh i))
-
-  pub asked_darken : darken_verdict n g w a b (is_from heard a) ≡ darken_answer t w a b
-  unfolding darken_answer
-  asked_darken = λ i. darken_verdict (en i) (eg i) w a b (is_from (eh i) a)
+-- the lowest group that hears a source in range
+pub steered_at : (t : Switch) (w a : ℕ) → w < t.waves → a < t.groups → first (λ b. is_from (t.hears w b) a) t.groups ≡ steered t w a
+steered_at t w a hw ha = sym (cond-true _ _ _ (and_from _ _ (lt-ltb w t.waves hw) (lt-ltb a t.groups ha)))

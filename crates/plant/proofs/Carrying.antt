@@ -1,14 +1,14 @@
 -- Carrying out a list of orders: one order, a refusal, two lists in turn, and a list that is accepted throughout.
-use Rattle.std.proofs.Common.{◌≡◌, ℕ, ◌+◌, ◌-◌, ◌<◌, ◌≤◌, ◌⊎◌, List, [], ◌∷◌, ◌++◌, reverse, length, get_or, take, is_ok, IfErr, Some, None, Ok, Err, Result, sym, refl, ap, ◌∙◌, inl, inr, arith}
+use Rattle.std.proofs.Common.{◌≡◌, ℕ, ◌⊎◌, List, [], ◌∷◌, ◌++◌, reverse, is_ok, Some, None, Ok, Err, Result, sym, refl, ap, ◌∙◌, subst, inl, inr, arith}
 use mathlib.Core.List.{reverse-append}
-use Rattle.std.proofs.lemmas.List.{take_more}
 use Rattle.std.proofs.lemmas.Bool.{cond-true, cond-false}
 use Rattle.plant.specs.declared.refusal.PlantRefusal.{PlantRefusal}
 use Rattle.plant.specs.declared.change_over.Retuning.{Retuning}
+use Rattle.plant.specs.declared.lightpath.Lightpath.{Lightpath}
 use Rattle.plant.specs.declared.slip.Slip.{Slip}
 use Rattle.plant.specs.Switch.{Switch, tuned}
 use Rattle.plant.specs.Slips.{slip_for}
-use Rattle.plant.specs.Orders.{Order, darken, light, answer_to, after, AllAccepted, after_all, answer_to_all, until_refused, darkening, relighting, onward}
+use Rattle.plant.specs.Orders.{Order, darken, light, answer_to, after, AllAccepted, after_all, answer_to_all, until_refused, darkening, relighting, onward, backwards, change_over}
 
 abbrev Reply : Type 0
 Reply = Result (Unit {0}) PlantRefusal
@@ -18,17 +18,10 @@ pub record Alike (t : Switch) (os : List Order) (u : Switch) (ps : List Order) :
   pub answer : answer_to_all t os ≡ answer_to_all u ps
   pub after : until_refused t os ≡ until_refused u ps
 
-pub alike_trans : (t u v : Switch) (os ps qs : List Order) → Alike t os u ps → Alike u ps v qs → Alike t os v qs
-alike_trans t u v os ps qs x y = record { answer = x.answer ∙ y.answer; after = x.after ∙ y.after }
-
 -- a refusal keeps the plant
 pub unchanged : (t : Switch) (o : Order) (x : PlantRefusal) → answer_to t o ≡ Err x → after t o ≡ t
 unchanged t (darken w a b) x e = λ i. record { waves = t.waves; groups = t.groups; hears = cond-false _ (tuned t.hears w b None) t.hears (ap is_ok e) i }
 unchanged t (light w a b) x e = λ i. record { waves = t.waves; groups = t.groups; hears = cond-false _ (tuned t.hears w b (Some a)) t.hears (ap is_ok e) i }
-
-pub kept_if_refused : (t : Switch) (o : Order) (r : Reply) → r ≡ answer_to t o → IfErr r (λ _. after t o ≡ t)
-kept_if_refused t o (Ok u) e = tt
-kept_if_refused t o (Err x) e = unchanged t o x (sym e)
 
 -- an accepted order, and then the rest
 pub goes_on : (t : Switch) (o : Order) (os : List Order) → answer_to t o ≡ Ok tt → Alike t (o ∷ os) (after t o) os
@@ -90,40 +83,45 @@ accepted_throughout t (o ∷ os) h =
     let r = accepted_throughout (after t o) os h.1 in
     (g.answer ∙ r.0, g.after ∙ r.1)
 
--- the last of a list, and those before it the nearest first
-pub from_the_end : (es : List Retuning) (n : ℕ) (d : Retuning) → 0 < n → n ≤ length es → reverse (take n es) ≡ get_or es (n - 1) d ∷ reverse (take (n - 1) es)
-from_the_end es n d lo hi =
-    let e : n ≡ (n - 1) + 1 = omega arith in
-    let h : n - 1 < length es = omega arith in
-    ap (λ (k : ℕ). reverse (take k es)) e ∙ ap reverse (take_more es (n - 1) d h) ∙ reverse-append (take (n - 1) es) (get_or es (n - 1) d ∷ [])
+pub accepted_answer : (t : Switch) (os : List Order) → AllAccepted t os → answer_to_all t os ≡ Ok tt
+accepted_answer t os h = (accepted_throughout t os h).0
+
+pub accepted_after : (t : Switch) (os : List Order) → AllAccepted t os → until_refused t os ≡ after_all t os
+accepted_after t os h = (accepted_throughout t os h).1
+
+-- the orders of a chain begin at its last lightpath
+pub begins_last : (chain before : List Retuning) (last : Retuning) → chain ≡ before ++ (last ∷ []) → change_over chain ≡ darkening last ∷ onward last (reverse before)
+begins_last chain before last e = ap change_over e ∙ ap backwards (reverse-append before (last ∷ []))
 
 -- what a taking down handed out, or why it was refused
-pub handed_out : (r : Reply) (w a b : ℕ) (s : Slip) → Ok s ≡ slip_for r w a b → (r ≡ Ok tt) × (s ≡ record { wavelength = w; source = a; destination = b })
-handed_out (Ok u) w a b s e = (refl, cc)
-handed_out (Err x) w a b s e = absurd (let z : ◌≡◌ {A = ℕ} 0 1 = cc in omega arith)
+pub handed_out : (r : Reply) (p : Lightpath) (s : Slip) → Ok s ≡ slip_for r p → (r ≡ Ok tt) × (s ≡ record { path = p })
+handed_out (Ok u) p s e = (refl, cc)
+handed_out (Err x) p s e = absurd (let z : ◌≡◌ {A = ℕ} 0 1 = cc in omega arith)
 
-pub turned_down : (r : Reply) (w a b : ℕ) (x : PlantRefusal) → Err x ≡ slip_for r w a b → r ≡ Err x
-turned_down (Ok u) w a b x e = absurd (let z : ◌≡◌ {A = ℕ} 0 1 = cc in omega arith)
-turned_down (Err y) w a b x e = cc
+pub turned_down : (r : Reply) (p : Lightpath) (x : PlantRefusal) → Err x ≡ slip_for r p → r ≡ Err x
+turned_down (Ok u) p x e = absurd (let z : ◌≡◌ {A = ℕ} 0 1 = cc in omega arith)
+turned_down (Err y) p x e = cc
 
 -- the two orders of a turn
 abbrev pub turn_of : Retuning → Retuning → List Order
 turn_of dark next = darkening next ∷ (relighting dark ∷ [])
 
--- after a turn the same is left to come of the rest
-pub turned : (t t1 u : Switch) (dark next : Retuning) (rest : List Retuning) (ps : List Order)
-    → Alike t (onward dark (next ∷ rest)) u ps → answer_to_all t (turn_of dark next) ≡ Ok tt → t1 ≡ until_refused t (turn_of dark next) → Alike t1 (onward next rest) u ps
-turned t t1 u dark next rest ps l e h =
-    let k = in_turn t (turn_of dark next) (onward next rest) e in
-    record {
-      answer = ap (λ (x : Switch). answer_to_all x (onward next rest)) h ∙ sym k.answer ∙ l.answer;
-      after = ap (λ (x : Switch). until_refused x (onward next rest)) h ∙ sym k.after ∙ l.after;
-    }
+-- a turn, where `next` stands last of those that are left
+module _ (t t1 u : Switch) (dark next : Retuning) (left rest : List Retuning) (ps : List Order) (last : left ≡ rest ++ (next ∷ [])) (l : Alike t (onward dark (reverse left)) u ps) where
+  opened : Alike t (onward dark (next ∷ reverse rest)) u ps
+  opened = subst (λ (xs : List Retuning). Alike t (onward dark xs) u ps) (ap reverse last ∙ reverse-append rest (next ∷ [])) l
 
--- a turn that is refused ends the whole
-pub broken_off : (t t1 u : Switch) (dark next : Retuning) (rest : List Retuning) (ps : List Order) (x : PlantRefusal)
-    → Alike t (onward dark (next ∷ rest)) u ps → answer_to_all t (turn_of dark next) ≡ Err x → t1 ≡ until_refused t (turn_of dark next)
-    → (Err x ≡ answer_to_all u ps) × (t1 ≡ until_refused u ps)
-broken_off t t1 u dark next rest ps x l e h =
-    let k = cut_short t (turn_of dark next) (onward next rest) x e in
-    (sym k.0 ∙ l.answer, h ∙ sym k.1 ∙ l.after)
+  -- after it the same is left to come of the rest
+  pub turned : answer_to_all t (turn_of dark next) ≡ Ok tt → t1 ≡ until_refused t (turn_of dark next) → Alike t1 (onward next (reverse rest)) u ps
+  turned e h =
+      let k = in_turn t (turn_of dark next) (onward next (reverse rest)) e in
+      record {
+        answer = ap (λ (x : Switch). answer_to_all x (onward next (reverse rest))) h ∙ sym k.answer ∙ opened.answer;
+        after = ap (λ (x : Switch). until_refused x (onward next (reverse rest))) h ∙ sym k.after ∙ opened.after;
+      }
+
+  -- where it is refused, it ends the whole
+  pub broken_off : (x : PlantRefusal) → answer_to_all t (turn_of dark next) ≡ Err x → t1 ≡ until_refused t (turn_of dark next) → (Err x ≡ answer_to_all u ps) × (t1 ≡ until_refused u ps)
+  broken_off x e h =
+      let k = cut_short t (turn_of dark next) (onward next (reverse rest)) x e in
+      (sym k.0 ∙ opened.answer, h ∙ sym k.1 ∙ opened.after)

@@ -1,5 +1,5 @@
 -- The lowest number below a bound that passes a test.
-use Rattle.std.proofs.Common.{◌≡◌, ℕ, zero, suc, ◌<◌, Bool, true, false, cond, ◌⊎◌, Some, None, Option, sym, refl, ap, ◌∙◌, inl, inr, arith}
+use Rattle.std.proofs.Common.{◌≡◌, ℕ, zero, suc, ◌<◌, ◌≤◌, Bool, true, false, cond, ◌⊎◌, Some, None, Option, MatchOption, sym, refl, ap, ◌∙◌, inl, inr, arith}
 use Rattle.std.proofs.lemmas.Bool.{cases_lt}
 use Rattle.plant.specs.Switch.{first, or_else}
 
@@ -59,3 +59,9 @@ first_passes p (suc n) k e = elim (chosen (first p n) (p n) n k e) [
   | inl s ↦ (let r = first_passes p n k s in (omega arith, r.1))
   | inr (s, t) ↦ (omega arith, ap p (sym s) ∙ t)
 ]
+
+-- what a search below n finds
+pub first_found : (p : ℕ → Bool) (n : ℕ) (r : Option ℕ)
+    → MatchOption r ((k : ℕ) → 0 ≤ k → k < n → p k ≡ false) (λ i. (0 ≤ i) × (i < n) × (p i ≡ true) × ((k : ℕ) → 0 ≤ k → k < i → p k ≡ false)) → r ≡ first p n
+first_found p n None h = sym (first_none p n (λ k l. h k (omega arith) l))
+first_found p n (Some i) h = sym (first_is p n i h.1 h.2 (λ k l. h.3 k (omega arith) l))

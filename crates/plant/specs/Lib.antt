@@ -4,5 +4,7 @@ pub mod Making
 pub mod Cells
 pub mod Mirrors
 pub mod Registers
+pub mod Fabrics
 pub mod Slips
 pub mod Orders
+pub mod Proper

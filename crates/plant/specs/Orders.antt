@@ -38,10 +38,10 @@ until_refused t [] = t
 until_refused t (o ∷ os) = cond (is_ok (answer_to t o)) (until_refused (after t o) os) t
 
 abbrev pub darkening : Retuning → Order
-darkening e = darken e.wavelength e.source e.destination
+darkening e = darken e.path.wavelength e.path.source e.path.destination
 
 abbrev pub relighting : Retuning → Order
-relighting e = light e.onto e.source e.destination
+relighting e = light e.onto e.path.source e.path.destination
 
 -- what is left once e is dark: the list has those before it in the chain, the nearest first;
 -- each is darkened before the one after it is lit again

@@ -1,23 +1,21 @@
 //! A plant of mirrors, which it keeps itself: one for each wavelength and source group.
-ghost use Rattle.std.specs.Prelude.{◌≡◌, ℕ, ◌≤◌, Ok, OnErr};
+ghost use Rattle.std.specs.Prelude.{◌≡◌, ℕ, ◌≤◌, Ok};
 ghost use Rattle.plant.specs.Making.{granted, hub_verdict};
-ghost use Rattle.plant.specs.Mirrors.{Apart, Ranged, mirror_switch};
-ghost use Rattle.plant.specs.Switch.{Proper, dark_after, dark_switch, darken_answer, light_answer, lit_after, steered};
+ghost use Rattle.plant.specs.Mirrors.{Sound, mirror_switch};
+ghost use Rattle.plant.specs.Proper.{hub_proper};
+ghost use Rattle.plant.specs.Switch.{dark_switch};
 
-use crate::Plant;
-use crate::refusal::{MakingRefusal, PlantRefusal};
-use crate::verdict::{ask_counts, ask_darken, ask_light};
+use crate::lightpath::Lightpath;
+use crate::make::{Counts, Make, ask_counts};
+use crate::refusal::MakingRefusal;
 
-// In rows of 32 a wavelength, a mirror is set to its destination group plus one, or to 0.
+// By wavelength and source group, the destination group at which the mirror points.
 #[derive(Drop)]
 pub struct MirrorHub {
-    mirrors: [u8; 1024],
+    mirrors: [[Option<u8>; 32]; 32],
     waves: u8,
     groups: u8,
-    ghost few: { (waves ≤ 32) × (groups ≤ 32) },
-    ghost both: { (waves ≡ 0 → groups ≡ 0) × (groups ≡ 0 → waves ≡ 0) },
-    ghost ranged: { Ranged waves groups mirrors },
-    ghost apart: { Apart waves groups mirrors },
+    ghost sound: { Sound waves groups mirrors },
 }
 
 impl MirrorHub {
@@ -44,110 +42,52 @@ impl MirrorHub {
         ensures { mirror_switch result.waves result.groups result.mirrors ≡ dark_switch waves groups }
     {
         MirrorHub {
-            mirrors: [0; 1024],
+            mirrors: [[None; 32]; 32],
             waves,
             groups,
         }
     }
-
-    fn counts(&self) -> (u8, u8)
-        ensures counts { (result.0 ≡ self.now.waves) × (result.1 ≡ self.now.groups) }
-        ensures proper { Proper (mirror_switch self.now.waves self.now.groups self.now.mirrors) }
-    {
-        (self.waves, self.groups)
-    }
-
-    // The source whose mirror points at b.
-    fn source_at(&self, w: u8, b: u8) -> Option<u8>
-        ensures { result ≡ (mirror_switch self.now.waves self.now.groups self.now.mirrors).hears w b }
-    {
-        if w >= self.waves || b >= self.groups {
-            return None;
-        }
-        for a in 0..self.groups {
-            if self.mirrors[w as usize * 32 + a as usize] == b + 1 {
-                return Some(a);
-            }
-        }
-        None
-    }
-
-    // Where the mirror of a points.
-    fn target_of(&self, w: u8, a: u8) -> Option<u8>
-        ensures { result ≡ steered (mirror_switch self.now.waves self.now.groups self.now.mirrors) w a }
-    {
-        if w >= self.waves || a >= self.groups {
-            return None;
-        }
-        let mirror = self.mirrors[w as usize * 32 + a as usize];
-        if mirror == 0 { None } else { Some(mirror - 1) }
-    }
-
-    fn may_light(&self, w: u8, a: u8, b: u8) -> Result<(), PlantRefusal>
-        ensures answer { result ≡ light_answer (mirror_switch self.now.waves self.now.groups self.now.mirrors) w a b }
-        ensures kept { OnErr result (lit_after (mirror_switch self.now.waves self.now.groups self.now.mirrors) w a b ≡ mirror_switch self.now.waves self.now.groups self.now.mirrors) }
-    {
-        let steered = self.target_of(w, a);
-        let heard = self.source_at(w, b);
-        ask_light(self.counts(), w, a, b, steered, heard)
-    }
-
-    fn may_darken(&self, w: u8, a: u8, b: u8) -> Result<(), PlantRefusal>
-        ensures answer { result ≡ darken_answer (mirror_switch self.now.waves self.now.groups self.now.mirrors) w a b }
-        ensures kept { OnErr result (dark_after (mirror_switch self.now.waves self.now.groups self.now.mirrors) w a b ≡ mirror_switch self.now.waves self.now.groups self.now.mirrors) }
-    {
-        ask_darken(self.counts(), w, a, b, self.source_at(w, b))
-    }
-
-    // Points the mirror of a at b.
-    fn point(&mut self, w: u8, a: u8, b: u8)
-        requires { light_answer (mirror_switch self.old.waves self.old.groups self.old.mirrors) w a b ≡ Ok tt }
-        ensures { mirror_switch self.new.waves self.new.groups self.new.mirrors ≡ lit_after (mirror_switch self.old.waves self.old.groups self.old.mirrors) w a b }
-    {
-        self.mirrors[w as usize * 32 + a as usize] = b + 1;
-    }
-
-    // Turns the mirror of a, which points at b, away.
-    fn turn_away(&mut self, w: u8, a: u8, b: u8)
-        requires { darken_answer (mirror_switch self.old.waves self.old.groups self.old.mirrors) w a b ≡ Ok tt }
-        ensures { mirror_switch self.new.waves self.new.groups self.new.mirrors ≡ dark_after (mirror_switch self.old.waves self.old.groups self.old.mirrors) w a b }
-    {
-        self.mirrors[w as usize * 32 + a as usize] = 0;
-    }
 }
 
-impl Plant for MirrorHub {
+impl Make for MirrorHub {
     ghost state = { λ h. mirror_switch h.waves h.groups h.mirrors };
+
+    ghost proper = { λ h. hub_proper h.waves h.groups h.mirrors h.sound };
 
     ghost Kept = { ℕ };
 
     ghost kept = { λ _. 0 };
 
-    fn waves(&self) -> u8 {
-        self.counts().0
+    fn counts(&self) -> Counts {
+        Counts {
+            waves: self.waves,
+            groups: self.groups,
+        }
     }
 
-    fn groups(&self) -> u8 {
-        self.counts().1
+    // The source whose mirror points at b.
+    fn source_at(&self, w: u8, b: u8) -> Option<u8> {
+        if w >= self.waves || b >= self.groups {
+            return None;
+        }
+        (0..self.groups).find(|a| self.mirrors[w as usize][*a as usize] == Some(b))
     }
 
-    fn heard(&self, w: u8, b: u8) -> Option<u8> {
-        self.source_at(w, b)
+    // Where the mirror of a points.
+    fn target_of(&self, w: u8, a: u8) -> Option<u8> {
+        if w >= self.waves || a >= self.groups {
+            return None;
+        }
+        self.mirrors[w as usize][a as usize]
     }
 
-    fn steered(&self, w: u8, a: u8) -> Option<u8> {
-        self.target_of(w, a)
+    // Points the mirror of the source at the destination.
+    fn set(&mut self, path: Lightpath) {
+        self.mirrors[path.wavelength as usize][path.source as usize] = Some(path.destination);
     }
 
-    fn light(&mut self, w: u8, a: u8, b: u8) -> Result<(), PlantRefusal> {
-        self.may_light(w, a, b)?;
-        self.point(w, a, b);
-        Ok(())
-    }
-
-    fn darken(&mut self, w: u8, a: u8, b: u8) -> Result<(), PlantRefusal> {
-        self.may_darken(w, a, b)?;
-        self.turn_away(w, a, b);
-        Ok(())
+    // Turns the mirror of the source away.
+    fn clear(&mut self, path: Lightpath) {
+        self.mirrors[path.wavelength as usize][path.source as usize] = None;
     }
 }

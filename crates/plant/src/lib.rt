@@ -4,13 +4,15 @@
 pub mod change_over;
 pub mod fabric;
 pub mod hub;
+pub mod lightpath;
+mod make;
 pub mod refusal;
 pub mod slip;
-mod verdict;
 
 ghost use Rattle.std.specs.Prelude.{◌≡◌};
 ghost use Rattle.plant.specs.Switch.{Proper, Switch, dark_after, darken_answer, light_answer, lit_after, steered};
 
+use lightpath::Lightpath;
 use refusal::PlantRefusal;
 
 /// What lights and darkens. It means a switch: for each wavelength and destination group, the source group heard there, or none.
@@ -24,13 +26,11 @@ pub trait Plant {
 
     /// How many wavelengths there are.
     fn waves(&self) -> u8
-        ensures value { result ≡ (state self.now).waves }
-        ensures proper { Proper (state self.now) };
+        ensures { result ≡ (state self.now).waves };
 
     /// How many groups there are.
     fn groups(&self) -> u8
-        ensures value { result ≡ (state self.now).groups }
-        ensures proper { Proper (state self.now) };
+        ensures { result ≡ (state self.now).groups };
 
     /// The source group that `b` hears on `w`, or none.
     fn heard(&self, w: u8, b: u8) -> Option<u8>
@@ -40,15 +40,17 @@ pub trait Plant {
     fn steered(&self, w: u8, a: u8) -> Option<u8>
         ensures { result ≡ steered (state self.now) w a };
 
-    /// Lets `b` hear `a` on `w`.
-    fn light(&mut self, w: u8, a: u8, b: u8) -> Result<(), PlantRefusal>
-        ensures answer { result ≡ light_answer (state self.old) w a b }
-        ensures after { state self.new ≡ lit_after (state self.old) w a b }
+    /// Lets the path's destination hear its source.
+    fn light(&mut self, path: Lightpath) -> Result<(), PlantRefusal>
+        ensures answer { result ≡ light_answer (state self.old) path.wavelength path.source path.destination }
+        ensures after { state self.new ≡ lit_after (state self.old) path.wavelength path.source path.destination }
         ensures kept { kept self.new ≡ kept self.old };
 
-    /// Lets `b`, which hears `a` on `w`, hear nothing there.
-    fn darken(&mut self, w: u8, a: u8, b: u8) -> Result<(), PlantRefusal>
-        ensures answer { result ≡ darken_answer (state self.old) w a b }
-        ensures after { state self.new ≡ dark_after (state self.old) w a b }
+    /// Lets the path's destination, which hears its source, hear nothing there.
+    fn darken(&mut self, path: Lightpath) -> Result<(), PlantRefusal>
+        ensures answer { result ≡ darken_answer (state self.old) path.wavelength path.source path.destination }
+        ensures after { state self.new ≡ dark_after (state self.old) path.wavelength path.source path.destination }
         ensures kept { kept self.new ≡ kept self.old };
+
+    ghost proper: { (x : Self) → Proper (state x) };
 }

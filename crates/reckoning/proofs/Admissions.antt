@@ -1,5 +1,5 @@
 -- What an admission's questions say, and what its acceptance keeps, moves and writes.
-use Rattle.std.proofs.Common.{◌≡◌, ℕ, zero, suc, ◌+◌, ◌*◌, ◌<◌, ◌≤◌, Bool, true, false, cond, not, eqb, ◌⊎◌, List, [], ◌∷◌, map, reverse, length, take, count_by, sym, refl, ap, ◌∙◌, subst, subst₂, inl, inr, arith}
+use Rattle.std.proofs.Common.{◌≡◌, ℕ, zero, suc, ◌+◌, ◌*◌, ◌<◌, ◌≤◌, Bool, true, false, cond, not, ◌⊎◌, List, [], ◌∷◌, map, reverse, length, take, count_by, sym, refl, ap, ◌∙◌, subst, subst₂, inl, inr, arith, ◌==◌}
 use Rattle.std.specs.List.{AllByRecursion}
 use Rattle.std.proofs.lemmas.Bool.{both_ways, and_parts, not-true, ltb-true, leb-false, eqb-true, eq-eqb, ne_eqb}
 use Rattle.std.proofs.lemmas.List.{length-append, length-reverse}
@@ -22,7 +22,7 @@ use Rattle.reckoning.proofs.Pigeon.{in_map, map_in, pairwise_map}
 use Rattle.reckoning.proofs.Sessions.{Colouring, any_hit}
 use Rattle.reckoning.proofs.Plans.{Good, plan_good}
 use Rattle.reckoning.proofs.Plants.{Carrying, Led, put_to}
-use Rattle.reckoning.proofs.Verdicts.{passed, reached}
+use Rattle.reckoning.proofs.Verdicts.{passed, reached, judged_by}
 
 -- ---- between the words of the laws and those of the lemmas
 
@@ -96,8 +96,7 @@ where_in (y ∷ xs) u x (inr i) = rw (ne_eqb y.number x.number (u.0 x i)) (where
 count_same : (p q : Session → Bool) (xs : List Session) → ((x : Session) → In x xs → p x ≡ q x) → count_by p xs ≡ count_by q xs
 count_same p q [] h = refl
 count_same p q (x ∷ xs) h =
-    let same : ◌≡◌ {A = ℕ} (cond (p x) 1 0) (cond (q x) 1 0) = ap (λ b. cond b 1 0) (h x (inl refl)) in
-    omega (arith, same, sum_by-cons (λ y. cond (p y) 1 0) x xs, sum_by-cons (λ y. cond (q y) 1 0) x xs, count_same p q xs (λ y i. h y (inr i)))
+    grind (arith, h x (inl refl), sum_by-cons (λ y. cond (p y) 1 0) x xs, sum_by-cons (λ y. cond (q y) 1 0) x xs, count_same p q xs (λ y i. h y (inr i)))
 
 -- ---- how many orders
 
@@ -181,7 +180,7 @@ module _ (L : Parts) (low_group : (s : ℕ) → s < L.sites → L.group s < L.gr
   P = planned L ss s d
 
   abbrev pub answered : ℕ → Reply
-  answered v = judged ss (cond (eqb v 25) (walked L.group (planned L ss s d) walk) walk) v (admission L ss walk n s d (planned L ss s d))
+  answered v = judged ss (cond (v == 25) (walked L.group (planned L ss s d) walk) walk) v (admission L ss walk n s d (planned L ss s d))
 
   pub all_asked : verdict (admit_questions L room ss walk n s d limit) ≡ 0 → Asked L ss n s d × Good L.group L.wavelengths L.plant_groups ss (L.group s) (L.group d) (planned L ss s d)
   all_asked e =
@@ -191,11 +190,7 @@ module _ (L : Parts) (low_group : (s : ℕ) → s < L.sites → L.group s < L.gr
       (q, good L low_group ss k n s d q (ltb-true _ _ loads.0) (ltb-true _ _ loads.1.0))
 
   pub sound_admit : Sound L (admit L room ss walk n s d limit).after
-  sound_admit = go (verdict qs) refl
-    where
-      go : (v : ℕ) → verdict qs ≡ v → Sound L (answered v).after
-      go zero e = let h = all_asked e in sound_admission L low_group ss k n s d h.0 P h.1
-      go (suc j) e = k
+  sound_admit = judged_by (λ (r : Reply). Sound L r.after) ss _ (verdict qs) (admission L ss walk n s d P) (λ e. let h = all_asked e in sound_admission L low_group ss k n s d h.0 P h.1) (λ _ _. k)
 
   same_wave : (w m : ℕ) → ◌≡◌ {A = Answer} (admitted P.gives (length P.moving)) (admitted w m) → P.gives ≡ w
   same_wave w m e = cc
@@ -204,18 +199,18 @@ module _ (L : Parts) (low_group : (s : ℕ) → s < L.sites → L.group s < L.gr
   same_moves w m e = cc
 
   not_admitted : (j w m : ℕ) → ◌≡◌ {A = Answer} (refused j) (admitted w m) → ⊥
-  not_admitted j w m e = let z : ◌≡◌ {A = ℕ} 0 1 = cc in omega arith
+  not_admitted j w m e = cc
 
   moves_told : Asked L ss n s d → (h : Good L.group L.wavelengths L.plant_groups ss (L.group s) (L.group d) P) → retuned ss (new_session n s d P.gives ∷ map (move P) ss) ≡ length P.moving
   moves_told q h =
       let later : List Session = new_session n s d P.gives ∷ map (move P) ss in
       let unlike = (sound_admission L low_group ss k n s d q P h).unlike in
-      count_same (λ x. not (eqb (where_is later x.number) x.wavelength)) (λ x. not (eqb (move P x).wavelength x.wavelength)) ss
+      count_same (λ x. not (where_is later x.number == x.wavelength)) (λ x. not ((move P x).wavelength == x.wavelength)) ss
       (λ x i.
       let same : where_is later x.number ≡ (move P x).wavelength =
       ap (where_is later) (sym (move_keeps (among P.moving x) P.p P.q x).0) ∙ where_in later unlike (move P x) (inr (map_in (move P) x ss i))
       in
-      ap (λ v. not (eqb v x.wavelength)) same)
+      ap (λ v. not (v == x.wavelength)) same)
       ∙ h.changed
 
   pub moves : (w m : ℕ) → (admit L room ss walk n s d limit).answer ≡ admitted w m → Accepted L ss (admit L room ss walk n s d limit) n s d w m
@@ -237,23 +232,18 @@ module _ (L : Parts) (low_group : (s : ℕ) → s < L.sites → L.group s < L.gr
       go (suc j) e a = absurd (not_admitted (suc j) w m a)
 
   pub admit_serves : (t : Switch) → Carries L ss t → CarriedOut (Carries L (admit L room ss walk n s d limit).after) t [] (written (admit L room ss walk n s d limit).orders)
-  admit_serves t c = go (verdict qs) refl
-    where
-      go : (v : ℕ) → verdict qs ≡ v → CarriedOut (Carries L (answered v).after) t [] (written (answered v).orders)
-      go zero e =
-          let h = all_asked e in
-          let new : Session = new_session n s d P.gives in
-          carried_out L ss (new ∷ map (move P) ss) (orders L.group P new) t c
-          (h.1.serves new refl refl refl (source_low L low_group ss k n s d h.0) (destination_low L low_group ss k n s d h.0) t.hears (carrying L ss t c))
-      go (suc j) e = c
+  admit_serves t c =
+      judged_by (λ (r : Reply). CarriedOut (Carries L r.after) t [] (written r.orders)) ss _ (verdict qs) (admission L ss walk n s d P)
+      (λ e.
+      let h = all_asked e in
+      let new : Session = new_session n s d P.gives in
+      carried_out L ss (new ∷ map (move P) ss) (orders L.group P new) t c
+      (h.1.serves new refl refl refl (source_low L low_group ss k n s d h.0) (destination_low L low_group ss k n s d h.0) t.hears (carrying L ss t c)))
+      (λ _ _. c)
 
   -- the verdict behind a refusal
   pub from_answer : (j : ℕ) → (admit L room ss walk n s d limit).answer ≡ refused j → verdict (admit_questions L room ss walk n s d limit) ≡ j
-  from_answer j = go (verdict qs) refl
-    where
-      go : (v : ℕ) → verdict qs ≡ v → (answered v).answer ≡ refused j → verdict qs ≡ j
-      go zero e a = let z : ◌≡◌ {A = ℕ} 0 1 = cc in let no_way : ⊥ = omega arith in absurd no_way
-      go (suc i) e a = let same : suc i ≡ j = cc in e ∙ same
+  from_answer j = judged_by (λ (r : Reply). r.answer ≡ refused j → verdict qs ≡ j) ss _ (verdict qs) (admission L ss walk n s d P) (λ _ a. cc) (λ i e a. cc)
 
   pub to_answer : (j : ℕ) → verdict (admit_questions L room ss walk n s d limit) ≡ suc j → (admit L room ss walk n s d limit).answer ≡ refused (suc j)
   to_answer j e = subst (λ (v : ℕ). (answered v).answer ≡ refused (suc j)) (sym e) refl

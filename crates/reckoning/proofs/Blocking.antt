@@ -1,5 +1,5 @@
 -- An admission is refused for want of a wavelength exactly when no table exists for the sessions with the new one.
-use Rattle.std.proofs.Common.{◌≡◌, ℕ, ◌<◌, ◌≤◌, Bool, true, false, cond, eqb, ltb, ◌⊎◌, List, ◌∷◌, take, drop, sym, refl, ap, ◌∙◌, inl, inr, arith}
+use Rattle.std.proofs.Common.{◌≡◌, ℕ, ◌<◌, ◌≤◌, Bool, true, false, cond, ◌⊎◌, List, ◌∷◌, take, drop, sym, refl, ap, ◌∙◌, inl, inr, arith, ◌==◌, nat_lt}
 use Rattle.std.specs.List.{AllByRecursion}
 use Rattle.std.proofs.lemmas.Bool.{ltb-true, ltb-false, eq-eqb, ne_eqb}
 use Rattle.std.proofs.ByRecursion.{All-take}
@@ -59,7 +59,7 @@ module _ (L : Parts) (lights : ℕ → ℕ → ℕ → Bool) (ss : List Session)
   -- the wavelengths after the admission are a table
   module _ (shared : Shared L lights) (P : Plan) (h : Good L.group L.wavelengths L.plant_groups ss (L.group s) (L.group d) P) where
     given : Session → ℕ
-    given x = cond (eqb x.number n) P.gives (move P x).wavelength
+    given x = cond (x.number == n) P.gives (move P x).wavelength
 
     given_new : (x : Session) → x ≡ wanted n s d → given x ≡ P.gives
     unfolding given
@@ -106,13 +106,13 @@ module _ (L : Parts) (low_group : (s : ℕ) → s < L.sites → L.group s < L.gr
 
   pub blocked_when : Shared L lights → verdict (admit_before L room ss walk n s d) ≡ 0 → NoTable lights L.wavelengths (new_session n s d 0 ∷ ss) → Blocked (admit L room ss walk n s d limit).answer
   blocked_when shared e none =
-      go (ltb (up_load L.group ss L.wavelengths (L.group s)) L.wavelengths) refl
-      (ltb (down_load L.group ss L.wavelengths (L.group d)) L.wavelengths) refl
+      go (nat_lt (up_load L.group ss L.wavelengths (L.group s)) L.wavelengths) refl
+      (nat_lt (down_load L.group ss L.wavelengths (L.group d)) L.wavelengths) refl
     where
       ten : AllByRecursion (λ x. x.0 ≡ true) (take 10 qs)
       ten = passed (take 10 qs) (omega arith) e
 
-      go : (u : Bool) → ltb (up_load L.group ss L.wavelengths (L.group s)) L.wavelengths ≡ u → (v : Bool) → ltb (down_load L.group ss L.wavelengths (L.group d)) L.wavelengths ≡ v → Blocked (admit L room ss walk n s d limit).answer
+      go : (u : Bool) → nat_lt (up_load L.group ss L.wavelengths (L.group s)) L.wavelengths ≡ u → (v : Bool) → nat_lt (down_load L.group ss L.wavelengths (L.group d)) L.wavelengths ≡ v → Blocked (admit L room ss walk n s d limit).answer
       go true up true down =
           let q = asked L room ss walk n s d ten in
           let h = good L low_group ss k n s d q (ltb-true _ _ up) (ltb-true _ _ down) in

@@ -1,6 +1,7 @@
 -- Chains of a step that never takes two elements to one: no repeats, two chains from different starts share nothing, and with fuel to spare a chain is closed.
 -- Only the elements with P count: the step leads to such elements alone, and takes no two of them to one.
 use Rattle.std.proofs.Common.{◌≡◌, ℕ, zero, suc, ◌<◌, ◌∷◌, length, Some, None, Option, sym, refl, ap, ◌∙◌, subst, inl, inr, arith}
+use Rattle.std.proofs.lemmas.Option.{none-some, same_Some}
 use Rattle.reckoning.specs.Lists.{In, Distinct, chain}
 
 -- nothing with P steps to s
@@ -14,12 +15,6 @@ Injective {A} P f = (x y z : A) → P x → P y → f x ≡ Some z → f y ≡ S
 abbrev NoReturn : {A : Type 0} → (A → Option A) → A → Type 0
 NoReturn f t = (m : ℕ) → In t (chain f m (f t)) → ⊥
 
-pub some_same : {A : Type 0} (x y : A) → Some x ≡ Some y → x ≡ y
-some_same x y e = cc
-
-pub none_some : {A : Type 0} (x : A) → None ≡ Some x → ⊥
-none_some x e = let z : ◌≡◌ {A = ℕ} 0 1 = cc in omega arith
-
 -- what holds of the start and of whatever is stepped to holds all along
 pub along : {A : Type 0} (f : A → Option A) (P : A → Type 0) → ((y x : A) → f y ≡ Some x → P x) → (n : ℕ) (o : Option A) → ((s : A) → o ≡ Some s → P s) → (x : A) → In x (chain f n o) → P x
 along f P h zero o k x i = absurd i
@@ -29,8 +24,8 @@ along f P h (suc n) (Some s) k x (inr i) = along f P h n (f s) (λ u e. h s u e)
 
 pub head_in : {A : Type 0} (f : A → Option A) (n : ℕ) (o : Option A) (y : A) → o ≡ Some y → 0 < n → In y (chain f n o)
 head_in f zero o y e l = let no : ⊥ = omega arith in absurd no
-head_in f (suc n) None y e l = absurd (none_some y e)
-head_in f (suc n) (Some s) y e l = inl (sym (some_same s y e))
+head_in f (suc n) None y e l = absurd (none-some y e)
+head_in f (suc n) (Some s) y e l = inl (sym (same_Some s y e))
 
 -- the fuel is not spent, so what an element of the chain steps to is there too
 pub closed : {A : Type 0} (f : A → Option A) (n : ℕ) (o : Option A) → length (chain f n o) < n → (x y : A) → In x (chain f n o) → f x ≡ Some y → In y (chain f n o)
@@ -74,7 +69,7 @@ module _ {A : Type 0} (P : A → Type 0) (f : A → Option A) (stays : (y x : A)
     pub chain_distinct : (n : ℕ) (s : A) → P s → Unreached P f s → Distinct (chain f n (Some s))
     chain_distinct n s a r =
         no_repeats n (Some s) (λ t e.
-        let b : P t = subst P (some_same s t e) a in
+        let b : P t = subst P (same_Some s t e) a in
         (b, λ m i. let w = before m t t (f t) b refl i in r w.0 w.1 (w.3 ∙ sym e)))
 
     apart : (m : ℕ) (t : A) → P t → Unreached P f t → (n : ℕ) (o : Option A) → ((s : A) → o ≡ Some s → P s × ((k : ℕ) → In s (chain f k (Some t)) → ⊥)) → (x : A) → In x (chain f n o) → In x (chain f m (Some t)) → ⊥
@@ -87,9 +82,9 @@ module _ {A : Type 0} (P : A → Type 0) (f : A → Option A) (stays : (y x : A)
     -- two chains from different starts to which nothing steps
     pub chains_apart : (n m : ℕ) (s t : A) → P s → P t → (s ≡ t → ⊥) → Unreached P f s → Unreached P f t → (x : A) → In x (chain f n (Some s)) → In x (chain f m (Some t)) → ⊥
     chains_apart n m s t a b ne rs rt x =
-        apart m t b rt n (Some s) (λ u e. (subst P (some_same s u e) a, λ k l. start k u e l)) x
+        apart m t b rt n (Some s) (λ u e. (subst P (same_Some s u e) a, λ k l. start k u e l)) x
       where
         start : (k : ℕ) (u : A) → Some s ≡ Some u → In u (chain f k (Some t)) → ⊥
         start zero u e l = l
-        start (suc k) u e (inl d) = ne (some_same s u e ∙ d)
+        start (suc k) u e (inl d) = ne (same_Some s u e ∙ d)
         start (suc k) u e (inr l) = let w = before k t u (f t) b refl l in rs w.0 w.1 (w.3 ∙ sym e)

@@ -1,6 +1,7 @@
 -- The exchange of two wavelengths along a whole chain: nothing meets, and the wavelength that becomes free serves the new session.
-use Rattle.std.proofs.Common.{◌≡◌, ℕ, ◌+◌, ◌*◌, ◌<◌, ◌≤◌, Bool, true, false, cond, eqb, ◌⊎◌, List, ◌∷◌, ◌++◌, map, length, Some, sym, refl, ap, ◌∙◌, subst, inl, inr, arith}
-use Rattle.std.proofs.lemmas.Bool.{cases_eq, eqb-true, eq-eqb, ne_eqb, both_ways, true≢false}
+use Rattle.std.proofs.Common.{◌≡◌, ℕ, ◌+◌, ◌*◌, ◌<◌, ◌≤◌, Bool, true, false, cond, ◌⊎◌, List, ◌∷◌, ◌++◌, map, length, Some, sym, refl, ap, ◌∙◌, subst, inl, inr, arith, ◌==◌}
+use Rattle.std.proofs.lemmas.Option.{same_Some}
+use Rattle.std.proofs.lemmas.Bool.{eqb-true, eq-eqb, ne_eqb, both_ways, true≢false}
 use Rattle.std.proofs.lemmas.List.{length-map, length-append}
 use Rattle.reckoning.specs.Lists.{In, Pairwise, Distinct, chain}
 use Rattle.reckoning.specs.declared.session.Session.{Session}
@@ -8,35 +9,16 @@ use Rattle.reckoning.specs.Standing.{leaves, enters, lit_out, lit_into}
 use Rattle.reckoning.specs.Plans.{next, swap, moved, among}
 use Rattle.reckoning.specs.Laws.{Clear, Unlike}
 use Rattle.reckoning.proofs.Pigeon.{pigeon_below, in_map, in_either, pairwise_map, pairwise_append}
-use Rattle.reckoning.proofs.Chains.{some_same, Injective, Unreached, along, head_in, closed, closed_back, chain_distinct, chains_apart}
+use Rattle.reckoning.proofs.Chains.{Injective, Unreached, along, head_in, closed, closed_back, chain_distinct, chains_apart}
 use Rattle.reckoning.proofs.Sessions.{Colouring, any_hit, any_some, same_source, same_destination, leaves_from, enters_from, next_says, next_across, next_back, next_injective, pairwise_pick}
 
 -- ---- the exchange of two numbers
 
 pub swap_cases : (p q w : ℕ) → ((w ≡ p) × (swap p q w ≡ q)) ⊎ (((w ≡ q) × (swap p q w ≡ p)) ⊎ ((w ≡ p → ⊥) × (w ≡ q → ⊥) × (swap p q w ≡ w)))
-swap_cases p q w =
-    elim (cases_eq w p) [
-      | inl e ↦ inl (e, rw (eq-eqb w p e))
-      | inr n ↦ elim (cases_eq w q) [
-        | inl e ↦ inr (inl (e, rw (ne_eqb w p n, eq-eqb w q e)))
-        | inr m ↦ inr (inr (n, m, rw (ne_eqb w p n, ne_eqb w q m)))
-      ]
-    ]
+swap_cases p q w = grind arith
 
 pub swap_injective : (p q v w : ℕ) → swap p q v ≡ swap p q w → v ≡ w
-swap_injective p q v w e = go (swap_cases p q v) (swap_cases p q w)
-  where
-    go : ((v ≡ p) × (swap p q v ≡ q)) ⊎ (((v ≡ q) × (swap p q v ≡ p)) ⊎ ((v ≡ p → ⊥) × (v ≡ q → ⊥) × (swap p q v ≡ v))) →
-        ((w ≡ p) × (swap p q w ≡ q)) ⊎ (((w ≡ q) × (swap p q w ≡ p)) ⊎ ((w ≡ p → ⊥) × (w ≡ q → ⊥) × (swap p q w ≡ w))) → v ≡ w
-    go (inl h) (inl k) = omega arith
-    go (inl h) (inr (inl k)) = omega arith
-    go (inl h) (inr (inr k)) = absurd (k.1 (sym k.2 ∙ (sym e ∙ h.1)))
-    go (inr (inl h)) (inl k) = omega arith
-    go (inr (inl h)) (inr (inl k)) = omega arith
-    go (inr (inl h)) (inr (inr k)) = absurd (k.0 (sym k.2 ∙ (sym e ∙ h.1)))
-    go (inr (inr h)) (inl k) = absurd (h.1 (sym h.2 ∙ (e ∙ k.1)))
-    go (inr (inr h)) (inr (inl k)) = absurd (h.0 (sym h.2 ∙ (e ∙ k.1)))
-    go (inr (inr h)) (inr (inr k)) = omega arith
+swap_injective p q v w e = grind arith
 
 -- ---- what moves is closed under the step, both ways: nothing meets afterwards
 
@@ -93,16 +75,14 @@ same_number ss u x y i j e =
 module _ (ss : List Session) (unlike : Pairwise Unlike ss) (es : List Session) (part : (x : Session) → In x es → In x ss) where
   pub among_says : (x : Session) → In x ss → among es x ≡ true → In x es
   among_says x i h =
-      let r = any_some (λ e. eqb e.number x.number) es h in
+      let r = any_some (λ e. e.number == x.number) es h in
       subst (λ (z : Session). In z es) (same_number ss unlike r.0 x (part r.0 r.1) i (eqb-true _ _ r.2)) r.1
 
   pub among_from : (x : Session) → In x es → among es x ≡ true
-  among_from x i = any_hit (λ e. eqb e.number x.number) es x i (eq-eqb x.number x.number refl)
+  among_from x i = any_hit (λ e. e.number == x.number) es x i (eq-eqb x.number x.number refl)
 
 pub bool_same : (u v : Bool) → (u ≡ true → v ≡ true) → (v ≡ true → u ≡ true) → u ≡ v
-bool_same true v h k = sym (h refl)
-bool_same false true h k = k refl
-bool_same false false h k = refl
+bool_same u v h k = grind arith
 
 -- one of the sessions on p or q
 abbrev Standing : List Session → ℕ → ℕ → Session → Type 0
@@ -110,7 +90,7 @@ Standing ss p q x = In x ss × ((x.wavelength ≡ p) ⊎ (x.wavelength ≡ q))
 
 -- a session on p by the group that it leaves, one on q by the group that it enters
 abbrev place : (ℕ → ℕ) → ℕ → ℕ → Session → ℕ
-place g G p x = cond (eqb x.wavelength p) (g x.source) (G + g x.destination)
+place g G p x = cond (x.wavelength == p) (g x.source) (G + g x.destination)
 
 module _ (g : ℕ → ℕ) (W G : ℕ) (ss : List Session) (sound : Colouring g W G ss) (a b p q : ℕ) (s t : Session) (m : Starts g ss a b p q s t) where
   none_out : (x : Session) → In x ss → x.wavelength ≡ p → g x.source ≡ a → ⊥
@@ -192,7 +172,7 @@ module _ (g : ℕ → ℕ) (W G : ℕ) (ss : List Session) (sound : Colouring g 
     whole_standing =
         along (next g ss p q) (Standing ss p q)
         (λ y x e. let k = next_says g ss p q y x e in (k.0, elim k.1 [ inl h ↦ inl h.on_p | inr h ↦ inr h.on_q ]))
-        (2 * G) (Some r) (λ u e. subst (Standing ss p q) (some_same r u e) (r-in, r-on))
+        (2 * G) (Some r) (λ u e. subst (Standing ss p q) (same_Some r u e) (r-in, r-on))
 
     pub whole_distinct : Distinct (chain (next g ss p q) (2 * G) (Some r))
     whole_distinct = chain_distinct (λ x. In x ss) (next g ss p q) stays inj (2 * G) r r-in r-unreached
@@ -243,9 +223,8 @@ module _ (g : ℕ → ℕ) (W G : ℕ) (ss : List Session) (sound : Colouring g 
       go : (u : Bool) → among es x ≡ u → (cond u (moved p q x) x).wavelength ≡ q → (g x.source ≡ a → ⊥) × (g x.destination ≡ b → ⊥)
       go true d w =
           let k = among_says ss sound.unlike es part x i d in
-          let on_p : x.wavelength ≡ p =
-          elim (swap_cases p q x.wavelength) [ inl h ↦ h.0 | inr (inl h) ↦ absurd (differ (sym h.1 ∙ w)) | inr (inr h) ↦ absurd (h.1 (sym h.2 ∙ w)) ]
-          in (
+          let apart = differ in
+          let on_p : x.wavelength ≡ p = grind (arith, apart) in (
             none_out x i on_p,
             λ e. disjoint (2 * G) (2 * G) x k (subst (λ (z : Session). In z (chain (next g ss p q) (2 * G) (Some t))) (same_destination g ss sound.clear t x m.t_in i (m.t_on ∙ sym on_p) (m.t_into ∙ sym e)) t_among),
           )
@@ -267,9 +246,8 @@ module _ (g : ℕ → ℕ) (W G : ℕ) (ss : List Session) (sound : Colouring g 
       go : (u : Bool) → among fs x ≡ u → (cond u (moved p q x) x).wavelength ≡ p → (g x.source ≡ a → ⊥) × (g x.destination ≡ b → ⊥)
       go true d w =
           let k = among_says ss sound.unlike fs part x i d in
-          let on_q : x.wavelength ≡ q =
-          elim (swap_cases p q x.wavelength) [ inl h ↦ absurd (differ (sym w ∙ h.1)) | inr (inl h) ↦ h.0 | inr (inr h) ↦ absurd (h.0 (sym h.2 ∙ w)) ]
-          in (
+          let apart = differ in
+          let on_q : x.wavelength ≡ q = grind (arith, apart) in (
             λ e. disjoint (2 * G) (2 * G) x (subst (λ (z : Session). In z (chain (next g ss p q) (2 * G) (Some s))) (same_source g ss sound.clear s x m.s_in i (m.s_on ∙ sym on_q) (m.s_out ∙ sym e)) s_among) k,
             none_in x i on_q,
           )

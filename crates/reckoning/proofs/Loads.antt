@@ -1,28 +1,24 @@
 -- What the masks of a group tell: its loads, and the lowest wavelength free there, below W of at most 32.
-use Rattle.std.proofs.Common.{◌≡◌, ℕ, zero, suc, ◌+◌, ◌-◌, ◌^◌, ◌≤◌, min, Bool, true, false, cond, not, ◌&&◌, ◌||◌, List, [], ◌∷◌, count_by, sym, refl, ap, ◌∙◌, ap₂, inl, inr, arith}
+use Rattle.std.proofs.Common.{◌≡◌, ℕ, zero, suc, ◌+◌, ◌-◌, ◌^◌, ◌≤◌, min, Bool, false, cond, not, ◌&&◌, ◌||◌, List, [], ◌∷◌, count_by, sym, refl, ap, ◌∙◌, ap₂, arith}
 use lib.Bits.{bit_or}
 use lib.Count.{ones, count_trailing_zeros}
 use Rattle.std.specs.List.{range_with_len, prefix_len}
 use Rattle.std.proofs.lemmas.List.Sums.{sum_by-cons}
-use Rattle.std.proofs.lemmas.Bool.{cases_Bool}
+use Rattle.std.proofs.Math.Bool.{not-not}
+use Rattle.std.proofs.lemmas.Bool.{false_from_ne_true}
 use Rattle.reckoning.specs.declared.session.Session.{Session}
 use Rattle.reckoning.specs.Lists.{lowest}
 use Rattle.reckoning.specs.Parts.{Parts}
 use Rattle.reckoning.specs.Standing.{lit_out, lit_into, leaves, enters, up_load, down_load}
 use Rattle.reckoning.specs.Laws.{Sound}
 use Rattle.reckoning.specs.Masks.{mask, out_mask, into_mask}
+use Rattle.reckoning.proofs.Pigeon.{counting_in, count_all}
 use Rattle.reckoning.proofs.Sessions.{any_some, leaves_says, enters_says}
 use Rattle.reckoning.proofs.Masks.{ones_mask, trailing_mask, mask_or}
 
-none_lit : (lit : ℕ → Bool) (k a : ℕ) → ((w : ℕ) → a ≤ w → lit w ≡ false) → count_by lit (range_with_len a k) ≡ 0
-none_lit lit zero a h = refl
-none_lit lit (suc k) a h =
-    let one : ◌≡◌ {A = ℕ} (cond (lit a) 1 0) 0 = ap (λ (b : Bool). cond b 1 0) (h a (omega arith)) in
-    omega (arith, sum_by-cons (λ x. cond (lit x) 1 0) a (range_with_len (a + 1) k), one, none_lit lit k (a + 1) (λ w l. h w (omega arith)))
-
 -- what is lit is below a + n
 count_cut : (lit : ℕ → Bool) (n m a : ℕ) → n ≤ m → ((w : ℕ) → a + n ≤ w → lit w ≡ false) → count_by lit (range_with_len a m) ≡ count_by lit (range_with_len a n)
-count_cut lit zero m a l h = none_lit lit m a (λ w k. h w (omega arith))
+count_cut lit zero m a l h = count_all lit false (range_with_len a m) (λ w i. h w (omega (arith, counting_in m a w i)))
 count_cut lit (suc n) zero a l h = let e : ⊥ = omega arith in absurd e
 count_cut lit (suc n) (suc m) a l h =
     omega (arith, sum_by-cons (λ x. cond (lit x) 1 0) a (range_with_len (a + 1) n), sum_by-cons (λ x. cond (lit x) 1 0) a (range_with_len (a + 1) m), count_cut lit n m (a + 1) (omega arith) (λ w k. h w (omega arith)))
@@ -30,39 +26,23 @@ count_cut lit (suc n) (suc m) a l h =
 leading_cut : (f : ℕ → Bool) (n m a : ℕ) → n ≤ m → prefix_len f (range_with_len a n) ≡ min n (prefix_len f (range_with_len a m))
 leading_cut f zero m a l = omega arith
 leading_cut f (suc n) zero a l = let e : ⊥ = omega arith in absurd e
-leading_cut f (suc n) (suc m) a l = go (f a) (leading_cut f n m (a + 1) (omega arith))
-  where
-    go : (b : Bool) → prefix_len f (range_with_len (a + 1) n) ≡ min n (prefix_len f (range_with_len (a + 1) m)) → cond b (1 + prefix_len f (range_with_len (a + 1) n)) 0 ≡ min (suc n) (cond b (1 + prefix_len f (range_with_len (a + 1) m)) 0)
-    go true h = omega arith
-    go false h = omega arith
+leading_cut f (suc n) (suc m) a l = grind (arith, leading_cut f n m (a + 1) (omega arith))
 
 leading_like : (f h : ℕ → Bool) → ((w : ℕ) → f w ≡ h w) → (xs : List ℕ) → prefix_len f xs ≡ prefix_len h xs
 leading_like f h e [] = refl
 leading_like f h e (x ∷ xs) = ap₂ (λ (b : Bool) (n : ℕ). cond b (1 + n) 0) (e x) (leading_like f h e xs)
 
-not_not : (b : Bool) → b ≡ not (not b)
-not_not true = refl
-not_not false = refl
-
 neither : (b c : Bool) → (b || c) ≡ not (not b && not c)
-neither true c = refl
-neither false true = refl
-neither false false = refl
+neither b c = grind arith
 
 module _ (L : Parts) (ss : List Session) (k : Sound L ss) (few : L.wavelengths ≤ 32) where
   out_low : (a w : ℕ) → L.wavelengths ≤ w → lit_out L.group ss a w ≡ false
   out_low a w l =
-      elim (cases_Bool (lit_out L.group ss a w)) [
-        | inl t ↦ let r = any_some (leaves L.group w a) ss t in let e : ⊥ = omega (arith, (leaves_says L.group w a r.0 r.2).0, k.low r.0 r.1) in absurd e
-        | inr f ↦ f
-      ]
+      false_from_ne_true _ (λ t. let r = any_some (leaves L.group w a) ss t in omega (arith, (leaves_says L.group w a r.0 r.2).0, k.low r.0 r.1))
 
   into_low : (b w : ℕ) → L.wavelengths ≤ w → lit_into L.group ss b w ≡ false
   into_low b w l =
-      elim (cases_Bool (lit_into L.group ss b w)) [
-        | inl t ↦ let r = any_some (enters L.group w b) ss t in let e : ⊥ = omega (arith, (enters_says L.group w b r.0 r.2).0, k.low r.0 r.1) in absurd e
-        | inr f ↦ f
-      ]
+      false_from_ne_true _ (λ t. let r = any_some (enters L.group w b) ss t in omega (arith, (enters_says L.group w b r.0 r.2).0, k.low r.0 r.1))
 
   pub out_ones : (a m : ℕ) → m ≡ out_mask L ss a → ones m ≡ up_load L.group ss L.wavelengths a
   unfolding out_mask
@@ -80,11 +60,11 @@ module _ (L : Parts) (ss : List Session) (k : Sound L ss) (few : L.wavelengths �
 
   pub out_lowest : (a m : ℕ) → m ≡ out_mask L ss a → min L.wavelengths (count_trailing_zeros 32 (2 ^ 32 - 1 - m)) ≡ lowest (λ w. not (lit_out L.group ss a w)) L.wavelengths
   unfolding out_mask
-  out_lowest a m e = lowest_is (λ w. not (lit_out L.group ss a w)) (lit_out L.group ss a) m (λ w. not_not (lit_out L.group ss a w)) e
+  out_lowest a m e = lowest_is (λ w. not (lit_out L.group ss a w)) (lit_out L.group ss a) m (λ w. sym (not-not (lit_out L.group ss a w))) e
 
   pub into_lowest : (b m : ℕ) → m ≡ into_mask L ss b → min L.wavelengths (count_trailing_zeros 32 (2 ^ 32 - 1 - m)) ≡ lowest (λ w. not (lit_into L.group ss b w)) L.wavelengths
   unfolding into_mask
-  into_lowest b m e = lowest_is (λ w. not (lit_into L.group ss b w)) (lit_into L.group ss b) m (λ w. not_not (lit_into L.group ss b w)) e
+  into_lowest b m e = lowest_is (λ w. not (lit_into L.group ss b w)) (lit_into L.group ss b) m (λ w. sym (not-not (lit_into L.group ss b w))) e
 
   pub both_lowest : (a b m n : ℕ) → m ≡ out_mask L ss a → n ≡ into_mask L ss b → min L.wavelengths (count_trailing_zeros 32 (2 ^ 32 - 1 - bit_or m n)) ≡ lowest (λ w. not (lit_out L.group ss a w) && not (lit_into L.group ss b w)) L.wavelengths
   unfolding out_mask into_mask

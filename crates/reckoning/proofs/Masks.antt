@@ -1,5 +1,5 @@
 -- Ones counted, trailing ones, and the union of two masks.
-use Rattle.std.proofs.Common.{◌≡◌, ℕ, zero, suc, ◌+◌, ◌-◌, ◌*◌, ◌/◌, ◌%◌, ◌^◌, ◌<◌, max, Bool, true, false, cond, ◌||◌, count_by, sym, refl, ap, ◌∙◌, arith}
+use Rattle.std.proofs.Common.{◌≡◌, ℕ, zero, suc, ◌+◌, ◌-◌, ◌*◌, ◌/◌, ◌%◌, ◌^◌, ◌<◌, Bool, true, false, cond, ◌||◌, count_by, sym, refl, ap, ◌∙◌, arith}
 use lib.Bits.{bit_or, or_step}
 use lib.Count.{ones, ones_step, count_trailing_zeros, under}
 use Rattle.std.specs.List.{range_with_len, prefix_len}
@@ -8,20 +8,14 @@ use Rattle.reckoning.specs.Masks.{mask_from}
 
 -- a bit and the rest
 bit_low : (b : Bool) (m : ℕ) → (cond b 1 0 + 2 * m) % 2 ≡ cond b 1 0
-bit_low true m = omega arith
-bit_low false m = omega arith
+bit_low b m = grind arith
 
 bit_rest : (b : Bool) (m : ℕ) → (cond b 1 0 + 2 * m) / 2 ≡ m
-bit_rest true m = omega arith
-bit_rest false m = omega arith
+bit_rest b m = grind arith
 
 pub mask_low : (lit : ℕ → Bool) (n a : ℕ) → mask_from lit a n < 2 ^ n
 mask_low lit zero a = omega arith
-mask_low lit (suc n) a = go (mask_low lit n (a + 1)) (lit a)
-  where
-    go : mask_from lit (a + 1) n < 2 ^ n → (b : Bool) → cond b 1 0 + 2 * mask_from lit (a + 1) n < 2 ^ suc n
-    go h true = omega arith
-    go h false = omega arith
+mask_low lit (suc n) a = grind (arith, mask_low lit n (a + 1))
 
 -- as many ones as are lit
 pub ones_mask : (lit : ℕ → Bool) (n a : ℕ) → ones (mask_from lit a n) ≡ count_by lit (range_with_len a n)
@@ -58,10 +52,4 @@ mask_or f g (suc n) a =
     let u = mask_from f (a + 1) n in
     let v = mask_from g (a + 1) n in
     or_step (cond (f a) 1 0 + 2 * u) (cond (g a) 1 0 + 2 * v)
-    ∙ (rw (bit_low (f a) u, bit_rest (f a) u, bit_low (g a) v, bit_rest (g a) v) (go (mask_or f g n (a + 1)) (f a) (g a)))
-  where
-    go : bit_or (mask_from f (a + 1) n) (mask_from g (a + 1) n) ≡ mask_from (λ w. f w || g w) (a + 1) n → (b c : Bool) → bit_or (mask_from f (a + 1) n) (mask_from g (a + 1) n) * 2 + max (cond b 1 0) (cond c 1 0) ≡ cond (b || c) 1 0 + 2 * mask_from (λ w. f w || g w) (a + 1) n
-    go h true true = omega arith
-    go h true false = omega arith
-    go h false true = omega arith
-    go h false false = omega arith
+    ∙ (rw (bit_low (f a) u, bit_rest (f a) u, bit_low (g a) v, bit_rest (g a) v) (grind (arith, mask_or f g n (a + 1))))

@@ -1,5 +1,6 @@
 -- The orders of an admission, carried out singly: the plant accepts each, and comes to carry what the sessions then are.
-use Rattle.std.proofs.Common.{◌≡◌, ℕ, zero, suc, ◌<◌, Bool, true, false, cond, not, eqb, ◌⊎◌, List, [], ◌∷◌, ◌++◌, map, reverse, length, Some, None, filter, Option, sym, refl, ap, ◌∙◌, subst, inl, inr, arith}
+use Rattle.std.proofs.Common.{◌≡◌, ℕ, zero, suc, ◌<◌, Bool, true, false, cond, not, ◌⊎◌, List, [], ◌∷◌, ◌++◌, map, reverse, length, Some, None, filter, Option, sym, refl, ap, ◌∙◌, subst, inl, inr, arith, ◌==◌}
+use Rattle.std.proofs.lemmas.Option.{none-some, same_Some}
 use mathlib.Core.List.{reverse_aux}
 use Rattle.std.proofs.lemmas.Bool.{cases_eq, eq-eqb, ne_eqb, both_ways}
 use Rattle.reckoning.specs.Lists.{In, Distinct, chain}
@@ -8,14 +9,14 @@ use Rattle.reckoning.specs.declared.order.Order.{Order}
 use Rattle.reckoning.specs.declared.order.Kind.TheVariants.{Light}
 use Rattle.reckoning.specs.Plans.{next, moved, among}
 use Rattle.reckoning.specs.Sheets.{order, back, chain_orders}
-use Rattle.reckoning.specs.Laws.{Clear, Unlike}
+use Rattle.reckoning.specs.Laws.{Clear}
 use Rattle.plant.specs.Switch.{tuned}
 use Rattle.reckoning.proofs.Plants.{Hears, Carrying, Accepts, Led}
 use Rattle.std.proofs.lemmas.List.{reverse-reverse}
 use Rattle.reckoning.proofs.Pigeon.{in_map, map_in}
-use Rattle.reckoning.proofs.Chains.{some_same, none_some, Injective, Unreached}
+use Rattle.reckoning.proofs.Chains.{Injective, Unreached}
 use Rattle.reckoning.proofs.Sessions.{Colouring, same_destination, next_injective, pairwise_pick}
-use Rattle.reckoning.proofs.Exchange.{swap_cases, swap_injective, one_moves, clear_back, among_says, among_from}
+use Rattle.reckoning.proofs.Exchange.{swap_injective, one_moves, clear_back, among_says, among_from, same_number}
 
 -- ---- one place of the plant
 
@@ -43,7 +44,7 @@ darken_step g P Q hears e from to c =
   where
     other : (w b a : ℕ) → tuned hears e.wavelength (g e.destination) None w b ≡ Some a → (s : Session) × Q s × (s.wavelength ≡ w) × (g s.destination ≡ b) × (g s.source ≡ a)
     other w b a h =
-        let apart : w ≡ e.wavelength → b ≡ g e.destination → ⊥ = λ u v. none_some a (sym (tuned_here hears e.wavelength (g e.destination) None w b u v) ∙ h) in
+        let apart : w ≡ e.wavelength → b ≡ g e.destination → ⊥ = λ u v. none-some a (sym (tuned_here hears e.wavelength (g e.destination) None w b u v) ∙ h) in
         let r = c.nothing_else w b a (sym (tuned_other hears e.wavelength (g e.destination) None w b apart) ∙ h) in
         (r.0, to r.0 r.1 (λ u v. apart (sym r.2 ∙ u) (sym r.3 ∙ v)), r.2, r.3, r.4)
 
@@ -62,7 +63,7 @@ light_step g P Q hears n clear from to here c =
     other w b a h =
         elim (cases_eq w n.wavelength) [
           | inl u ↦ elim (cases_eq b (g n.destination)) [
-            | inl v ↦ (n, here, sym u, sym v, some_same _ _ (sym (tuned_here hears n.wavelength (g n.destination) (Some (g n.source)) w b u v) ∙ h))
+            | inl v ↦ (n, here, sym u, sym v, same_Some _ _ (sym (tuned_here hears n.wavelength (g n.destination) (Some (g n.source)) w b u v) ∙ h))
             | inr v ↦ outside w b a h (λ _ y. v y)
           ]
           | inr u ↦ outside w b a h (λ y _. u y)
@@ -86,10 +87,10 @@ light_accepted g W G P hears n h i j clear c = (
     dark None e = e
     dark (Some a) e = let r = c.nothing_else n.wavelength (g n.destination) a e in absurd ((clear r.0 r.1 (sym r.2)).1 (sym r.3))
 
-dark_one : (b : ℕ) → filter (λ n. not (eqb n b)) (b ∷ []) ≡ []
+dark_one : (b : ℕ) → filter (λ n. not (n == b)) (b ∷ []) ≡ []
 dark_one b = rw (eq-eqb b b refl)
 
-dark_two : (a b : ℕ) → (a ≡ b → ⊥) → filter (λ n. not (eqb n b)) (a ∷ (b ∷ [])) ≡ a ∷ []
+dark_two : (a b : ℕ) → (a ≡ b → ⊥) → filter (λ n. not (n == b)) (a ∷ (b ∷ [])) ≡ a ∷ []
 dark_two a b ne = rw (ne_eqb a b ne, eq-eqb b b refl)
 
 -- ---- along the chain, from its end
@@ -126,7 +127,7 @@ chain_linked ss f (suc n) x acc (Some y) e l = chain_linked ss f n y (x ∷ acc)
 
 pub chain_ended : (f : Session → Option Session) (n : ℕ) (x : Session) (acc : List Session) (o : Option Session) → f x ≡ o → length (chain f n o) < n → Ended f (reverse_aux (chain f n o) (x ∷ acc))
 chain_ended f zero x acc o e l = let absurdity : ⊥ = omega arith in absurd absurdity
-chain_ended f (suc n) x acc None e l = λ z h. none_some z (sym e ∙ h)
+chain_ended f (suc n) x acc None e l = λ z h. none-some z (sym e ∙ h)
 chain_ended f (suc n) x acc (Some y) e l = chain_ended f n y (x ∷ acc) (f y) refl (omega arith)
 
 -- a whole chain backwards, ready to move
@@ -160,7 +161,7 @@ module _ (g : ℕ → ℕ) (W G : ℕ) (ss : List Session) (sound : Colouring g 
   both_moved x y i j ne w = two_clear x y i j ne (swap_injective p q x.wavelength y.wavelength w)
 
   moved_low : (x : Session) → In x ss → (moved p q x).wavelength < W
-  moved_low x i = elim (swap_cases p q x.wavelength) [ inl e ↦ omega arith | inr (inl e) ↦ omega arith | inr (inr e) ↦ omega (arith, sound.low x i) ]
+  moved_low x i = grind (arith, sound.low x i)
 
   -- the first of the chain that is left moves, while its neighbour before it, if any, is dark
   module _ (e : Session) (r done dark : List Session) (m : Midway g ss p q e r done) (e-dark : In e dark) (before : (x : Session) → In x ss → next g ss p q x ≡ Some e → In x dark) where
@@ -192,7 +193,7 @@ module _ (g : ℕ → ℕ) (W G : ℕ) (ss : List Session) (sound : Colouring g 
         distinct = m.distinct.1;
         apart = λ x i j. elim j [ inl h ↦ m.distinct.0 x i (sym h) | inr k ↦ m.apart x (inr i) k ];
         linked = m.linked.1;
-        onward = λ z h. inl (some_same z e (sym h ∙ m.linked.0));
+        onward = λ z h. inl (same_Some z e (sym h ∙ m.linked.0));
         closed = λ x z i h. elim i [ inl k ↦ inr (m.onward z (ap (next g ss p q) (sym k) ∙ h)) | inr k ↦ inr (m.closed x z k h) ];
       }
 
@@ -206,7 +207,7 @@ module _ (g : ℕ → ℕ) (W G : ℕ) (ss : List Session) (sound : Colouring g 
     λ w t. (moved_clear x d (m.stood x i) (m.stands d (inr (inl refl)))
         (λ k. m.apart d (inr (inl refl)) (subst (λ (z : Session). In z done) k i))
         (λ k. m.apart d (inr (inl refl)) (m.closed x d i k))
-        (λ k. m.apart e (inl refl) (subst (λ (z : Session). In z done) (some_same x e (sym k ∙ m.linked.0)) i))
+        (λ k. m.apart e (inl refl) (subst (λ (z : Session). In z done) (same_Some x e (sym k ∙ m.linked.0)) i))
         (ap (λ (z : Session). z.wavelength) (sym h) ∙ w)).1 (ap (λ (z : Session). g z.destination) (sym h) ∙ t),
   )
 
@@ -219,9 +220,6 @@ module _ (g : ℕ → ℕ) (W G : ℕ) (ss : List Session) (sound : Colouring g 
   d_lit e d r done m =
       inl (m.stands d (inr (inl refl)), m.apart d (inr (inl refl)), λ h. elim h [ inl k ↦ m.distinct.0 d (inl refl) (sym k) | inr k ↦ k ])
 
-  numbers_apart : (x y : Session) → In x ss → In y ss → (x ≡ y → ⊥) → x.number ≡ y.number → ⊥
-  numbers_apart x y i j ne e = elim (pairwise_pick Unlike ss x y sound.unlike i j) [ inl d ↦ ne d | inr (inl h) ↦ h e | inr (inr h) ↦ h (sym e) ]
-
   -- ---- all of it
 
   pub back_led : (End : Hears → Type 0) (tail : List Order) (e : Session) (r done : List Session) → Midway g ss p q e r done → ((hears : Hears) → Carrying g (Lit ss p q (reverse_aux (e ∷ r) done) []) hears → Led W G End hears [] tail) → (hears : Hears) → Carrying g (Lit ss p q done (e ∷ [])) hears → Led W G End hears (e.number ∷ []) (back g p q (e ∷ r) ++ tail)
@@ -229,7 +227,7 @@ module _ (g : ℕ → ℕ) (W G : ℕ) (ss : List Session) (sound : Colouring g 
       let e_in = m.stands e (inl refl) in
       let clear = relit_clear e [] done (e ∷ []) m (inl refl) (λ x i h. absurd (m.linked x i h)) in
       let hears' : Hears = tuned hears (moved p q e).wavelength (g e.destination) (Some (g e.source)) in
-      let none : filter (λ n. not (eqb n e.number)) (e.number ∷ []) ≡ [] = dark_one e.number in (
+      let none : filter (λ n. not (n == e.number)) (e.number ∷ []) ≡ [] = dark_one e.number in (
         light_accepted g W G (Lit ss p q done (e ∷ [])) hears (moved p q e) (moved_low e e_in) (sound.grouped e e_in).0 (sound.grouped e e_in).1 clear c,
         rw none (omega arith),
         subst (λ (ns : List ℕ). Led W G End hears' ns tail) (sym none)
@@ -242,7 +240,7 @@ module _ (g : ℕ → ℕ) (W G : ℕ) (ss : List Session) (sound : Colouring g 
       let c₁ : Carrying g (Lit ss p q done (e ∷ (d ∷ []))) hears₁ = darken_step g (Lit ss p q done (e ∷ [])) (Lit ss p q done (e ∷ (d ∷ []))) hears d (d_from e d r done m) (d_to e d done) c in
       let clear = relit_clear e (d ∷ r) done (e ∷ (d ∷ [])) m (inl refl) (λ x i h. inr (inl (inj x d e i d_in h m.linked.0))) in
       let hears₂ : Hears = tuned hears₁ (moved p q e).wavelength (g e.destination) (Some (g e.source)) in
-      let one : filter (λ n. not (eqb n e.number)) (d.number ∷ (e.number ∷ [])) ≡ d.number ∷ [] = dark_two d.number e.number (numbers_apart d e d_in e_in (λ h. m.distinct.0 d (inl refl) (sym h))) in (
+      let one : filter (λ n. not (n == e.number)) (d.number ∷ (e.number ∷ [])) ≡ d.number ∷ [] = dark_two d.number e.number (λ h. m.distinct.0 d (inl refl) (sym (same_number ss sound.unlike d e d_in e_in h))) in (
         (sound.low d d_in, (sound.grouped d d_in).0, (sound.grouped d d_in).1, c.each d (d_lit e d r done m)),
         omega arith,
         (

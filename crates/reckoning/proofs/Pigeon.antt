@@ -1,9 +1,10 @@
 -- Pigeonhole: a list without repeats, all of whose elements stand in another list, is no longer than that list.
-use Rattle.std.proofs.Common.{◌≡◌, ℕ, zero, suc, ◌+◌, ◌<◌, ◌≤◌, Bool, true, false, cond, ◌⊎◌, List, [], ◌∷◌, ◌++◌, map, length, filter, sym, refl, ap, ◌∙◌, subst, inl, inr, arith}
+use Rattle.std.proofs.Common.{◌≡◌, ℕ, zero, suc, ◌+◌, ◌<◌, ◌≤◌, Bool, true, false, cond, ◌⊎◌, List, [], ◌∷◌, ◌++◌, map, length, count_by, filter, sym, refl, ap, ◌∙◌, subst, inl, inr, arith}
 use mathlib.Core.List.{reverse_aux}
 use Rattle.std.specs.List.{range_with_len}
 use Rattle.std.proofs.lemmas.List.FromFn.{length-range_with_len}
-use Rattle.std.proofs.lemmas.Bool.{cases_eq, both_ways}
+use Rattle.std.proofs.lemmas.List.Sums.{sum_by-cons}
+use Rattle.std.proofs.lemmas.Bool.{cases_eq, cond_both}
 use Rattle.reckoning.specs.Lists.{In, Pairwise, Distinct}
 
 -- the list without the element at this place
@@ -39,6 +40,11 @@ in_counting zero a x l u = let no : ⊥ = omega arith in absurd no
 in_counting (suc n) a x l u =
     elim (cases_eq x a) [ inl e ↦ inl e | inr ne ↦ inr (in_counting n (a + 1) x (omega arith) (omega arith)) ]
 
+pub counting_in : (n a x : ℕ) → In x (range_with_len a n) → (a ≤ x) × (x < a + n)
+counting_in zero a x i = absurd i
+counting_in (suc n) a x (inl e) = (omega arith, omega arith)
+counting_in (suc n) a x (inr i) = let r = counting_in n (a + 1) x i in (omega arith, omega arith)
+
 -- numbers below n without repeats are at most n
 pub pigeon_below : (n : ℕ) (xs : List ℕ) → Distinct xs → ((x : ℕ) → In x xs → x < n) → length xs ≤ n
 pigeon_below n xs d h =
@@ -47,12 +53,7 @@ pigeon_below n xs d h =
 
 pub rising_counting : (n a : ℕ) → Pairwise (λ x y. x < y) (range_with_len a n)
 rising_counting zero a = tt
-rising_counting (suc n) a = (λ y i. omega (arith, low n (a + 1) y i), rising_counting n (a + 1))
-  where
-    low : (n a x : ℕ) → In x (range_with_len a n) → a ≤ x
-    low zero a x i = absurd i
-    low (suc n) a x (inl e) = omega arith
-    low (suc n) a x (inr i) = omega (arith, low n (a + 1) x i)
+rising_counting (suc n) a = (λ y i. omega (arith, counting_in n (a + 1) y i), rising_counting n (a + 1))
 
 -- ---- what stands in a list made of others
 
@@ -82,30 +83,22 @@ map_in f x (z ∷ xs) (inr i) = inr (map_in f x xs i)
 
 pub in_kept : {A : Type 0} (p : A → Bool) (x : A) (xs : List A) → In x (filter p xs) → In x xs × (p x ≡ true)
 in_kept p x [] i = absurd i
-in_kept {A} p x (z ∷ xs) i = go (λ j. in_kept p x xs j) (p z) refl i
-  where
-    go : (In x (filter p xs) → In x xs × (p x ≡ true)) → (b : Bool) → p z ≡ b → In x (cond b (z ∷ filter p xs) (filter p xs)) → In x (z ∷ xs) × (p x ≡ true)
-    go rest true t (inl e) = (inl e, ap p e ∙ t)
-    go rest true t (inr i) = (inr (rest i).0, (rest i).1)
-    go rest false t i = (inr (rest i).0, (rest i).1)
+in_kept {A} p x (z ∷ xs) i =
+    cond_both (p z) _ _ (λ (l : List A). In x l → In x (z ∷ xs) × (p x ≡ true))
+    (λ t j. elim j [ inl e ↦ (inl e, ap p e ∙ t) | inr k ↦ let r = in_kept p x xs k in (inr r.0, r.1) ])
+    (λ t j. let r = in_kept p x xs j in (inr r.0, r.1))
+    i
 
 pub kept_in : {A : Type 0} (p : A → Bool) (x : A) (xs : List A) → In x xs → p x ≡ true → In x (filter p xs)
 kept_in p x [] i t = absurd i
-kept_in p x (z ∷ xs) i t = go (λ j. kept_in p x xs j t) (p z) refl i
-  where
-    go : (In x xs → In x (filter p xs)) → (b : Bool) → p z ≡ b → In x (z ∷ xs) → In x (cond b (z ∷ filter p xs) (filter p xs))
-    go rest true u (inl e) = inl e
-    go rest true u (inr i) = inr (rest i)
-    go rest false u (inl e) = absurd (both_ways (p z) u (ap p (sym e) ∙ t))
-    go rest false u (inr i) = rest i
+kept_in p x (z ∷ xs) (inl e) t = rw (ap p (sym e) ∙ t) (inl e)
+kept_in {A} p x (z ∷ xs) (inr i) t = let k = kept_in p x xs i t in cond_both (p z) _ _ (λ (l : List A). In x l) (λ _. inr k) (λ _. k)
 
 pub pairwise_kept : {A : Type 0} (R : A → A → Type 0) (p : A → Bool) (xs : List A) → Pairwise R xs → Pairwise R (filter p xs)
 pairwise_kept R p [] h = tt
-pairwise_kept R p (z ∷ xs) h = go (pairwise_kept R p xs h.1) (p z)
-  where
-    go : Pairwise R (filter p xs) → (b : Bool) → Pairwise R (cond b (z ∷ filter p xs) (filter p xs))
-    go rest true = (λ y i. h.0 y (in_kept p y xs i).0, rest)
-    go rest false = rest
+pairwise_kept {A} R p (z ∷ xs) h =
+    let rest = pairwise_kept R p xs h.1 in
+    cond_both (p z) _ _ (λ (l : List A). Pairwise R l) (λ _. (λ y i. h.0 y (in_kept p y xs i).0, rest)) (λ _. rest)
 
 pub pairwise_append : {A : Type 0} (R : A → A → Type 0) (xs ys : List A) → Pairwise R xs → Pairwise R ys → ((x y : A) → In x xs → In y ys → R x y) → Pairwise R (xs ++ ys)
 pairwise_append R [] ys p q h = q
@@ -131,6 +124,13 @@ pairwise_weaker R S (x ∷ xs) h p =
 
 pub distinct_counting : (n a : ℕ) → Distinct (range_with_len a n)
 distinct_counting n a = pairwise_weaker (λ x y. x < y) (λ x y. x ≡ y → ⊥) (range_with_len a n) (λ x y i j l e. omega arith) (rising_counting n a)
+
+-- a count of a list all of whose elements pass, or none of them
+pub count_all : {A : Type 0} (p : A → Bool) (b : Bool) (xs : List A) → ((x : A) → In x xs → p x ≡ b) → count_by p xs ≡ cond b (length xs) 0
+count_all p true [] h = refl
+count_all p false [] h = refl
+count_all p true (x ∷ xs) h = sum_by-cons (λ y. cond (p y) 1 0) x xs ∙ rw (h x (inl refl)) (omega (arith, count_all p true xs (λ y i. h y (inr i))))
+count_all p false (x ∷ xs) h = sum_by-cons (λ y. cond (p y) 1 0) x xs ∙ rw (h x (inl refl)) (omega (arith, count_all p false xs (λ y i. h y (inr i))))
 
 pub pairwise_unmap : {A B : Type 0} (S : B → B → Type 0) (f : A → B) (xs : List A) → Pairwise S (map f xs) → Pairwise (λ x y. S (f x) (f y)) xs
 pairwise_unmap S f [] p = tt

@@ -1,20 +1,20 @@
 -- What an admission plans keeps the sessions clear of one another and moves fewer sessions than there are groups.
-use Rattle.std.proofs.Common.{◌≡◌, ℕ, zero, suc, ◌+◌, ◌*◌, ◌<◌, ◌≤◌, Bool, true, false, cond, not, ◌&&◌, eqb, ltb, leb, ◌⊎◌, List, [], ◌∷◌, ◌++◌, map, reverse, length, Some, count_by, filter, Option, sym, refl, ap, ◌∙◌, subst, inl, inr, arith}
-use Rattle.std.proofs.lemmas.List.Sums.{length-filter, sum_by-cons}
-use Rattle.std.proofs.lemmas.Bool.{cases_Bool, both_ways, and_from, and_parts, not-true, not_from_false, not_from_true, eq-eqb, ne_eqb, ltb-true, ltb-false, leb-true, leb-false}
-use Rattle.reckoning.specs.Lists.{In, Pairwise, Distinct, first, lowest, chain}
+use Rattle.std.proofs.Common.{◌≡◌, ℕ, zero, suc, ◌+◌, ◌*◌, ◌<◌, ◌≤◌, Bool, true, false, cond, not, ◌&&◌, ◌⊎◌, List, [], ◌∷◌, ◌++◌, map, reverse, length, Some, count_by, filter, Option, sym, refl, ◌∙◌, subst, inl, inr, arith, ◌==◌, nat_lt, nat_le}
+use Rattle.std.proofs.lemmas.List.Sums.{length-filter}
+use Rattle.std.proofs.lemmas.Bool.{true_from_ne_false, both_ways, and_from, and_parts, not-true, not_from_false, not_from_true, eq-eqb, ne_eqb, ltb-true, ltb-false, leb-true, leb-false}
+use Rattle.reckoning.specs.Lists.{In, Pairwise, first, lowest, chain}
 use Rattle.reckoning.specs.declared.session.Session.{Session}
 use Rattle.reckoning.specs.declared.order.Kind.TheVariants.{Light}
 use Rattle.reckoning.specs.Standing.{leaves, enters, lit_out, lit_into, up_load, down_load}
 use Rattle.reckoning.specs.Plans.{Plan, next, swap, moved, among, direct, shorter, exchange, plan, move}
 use Rattle.reckoning.specs.Sheets.{order, orders, chain_orders}
-use Rattle.reckoning.specs.Laws.{Clear, Unlike}
+use Rattle.reckoning.specs.Laws.{Clear}
 use Rattle.reckoning.proofs.Plants.{Hears, Carrying, Led}
-use Rattle.reckoning.proofs.Pigeon.{pigeon, in_kept, kept_in, pairwise_kept, pairwise_weaker, pairwise_map, in_map, map_in, in_reverse, distinct_reverse}
+use Rattle.reckoning.proofs.Pigeon.{count_all, pigeon, in_kept, kept_in, pairwise_kept, pairwise_map, in_map, map_in, in_reverse, distinct_reverse}
 use Rattle.reckoning.proofs.Chains.{Unreached}
 use Rattle.reckoning.proofs.Orders.{Linked, Ended, Ready, chain_linked, chain_ended, light_only, all_served}
-use Rattle.reckoning.proofs.Sessions.{Colouring, first_found, first_hit, any_hit, any_some, leaves_says, enters_says, leaves_from, enters_from, lowest_passes, lowest_none, lowest_free}
-use Rattle.reckoning.proofs.Exchange.{swap_cases, among_says, among_from, Starts, differ, whole_standing, whole_distinct, whole_clear, whole_short, both_short, q_free, p_free, s_unreached, t_unreached}
+use Rattle.reckoning.proofs.Sessions.{Colouring, unlike_distinct, first_found, first_hit, any_hit, any_some, leaves_says, enters_says, leaves_from, enters_from, lowest_passes, lowest_none, lowest_free}
+use Rattle.reckoning.proofs.Exchange.{among_says, among_from, Starts, differ, whole_standing, whole_distinct, whole_clear, whole_short, both_short, q_free, p_free, s_unreached, t_unreached}
 
 pub record Good (g : ℕ → ℕ) (W G : ℕ) (ss : List Session) (a b : ℕ) (P : Plan) : Type 0 where
   pub clear : Pairwise (Clear g) (map (move P) ss)
@@ -23,15 +23,8 @@ pub record Good (g : ℕ → ℕ) (W G : ℕ) (ss : List Session) (a b : ℕ) (P
   pub stays_low : (x : Session) → In x ss → (move P x).wavelength < W
   pub few : length P.moving + 1 ≤ G
   pub serves : (n : Session) → n.wavelength ≡ P.gives → g n.source ≡ a → g n.destination ≡ b → g n.source < G → g n.destination < G → (hears : Hears) → Carrying g (λ y. In y ss) hears → Led W G (Carrying g (λ y. In y (n ∷ map (move P) ss))) hears [] (orders g P n)
-  pub changed : count_by (λ x. not (eqb (move P x).wavelength x.wavelength)) ss ≡ length P.moving
+  pub changed : count_by (λ x. not ((move P x).wavelength == x.wavelength)) ss ≡ length P.moving
   pub both : length P.from_source + length P.from_destination + 2 ≤ 2 * G
-
-count_none : (p : Session → Bool) (xs : List Session) → ((x : Session) → In x xs → p x ≡ false) → count_by p xs ≡ 0
-count_none p [] h = refl
-count_none p (x ∷ xs) h =
-    let rest = count_none p xs (λ y i. h y (inr i)) in
-    let none : ◌≡◌ {A = ℕ} (cond (p x) 1 0) 0 = ap (λ b. cond b 1 0) (h x (inl refl)) in
-    sum_by-cons (λ y. cond (p y) 1 0) x xs ∙ omega (arith, rest, none)
 
 module _ (g : ℕ → ℕ) (W G : ℕ) (ss : List Session) (sound : Colouring g W G ss) (a b : ℕ) (a_low : a < G) where
   module _ (w : ℕ) (w-low : w < W) (unlit-out : lit_out g ss a w ≡ false) (unlit-in : lit_into g ss b w ≡ false) where
@@ -55,12 +48,12 @@ module _ (g : ℕ → ℕ) (W G : ℕ) (ss : List Session) (sound : Colouring g 
               (λ y i v. let h = both_free y i (sym v ∙ e) in (λ u. h.0 (sym u ∙ d), λ u. h.1 (sym u ∙ c)))
               (λ y i. elim i [ inl h ↦ inr h | inr k ↦ let r = in_map (move (direct w)) y ss k in inl (subst (λ (z : Session). In z ss) (sym r.2) r.1) ])
               (λ y i. inr (map_in (move (direct w)) y ss i)) (inl refl);
-          changed = count_none (λ x. not (eqb x.wavelength x.wavelength)) ss (λ x i. not_from_true _ (eq-eqb x.wavelength x.wavelength refl));
+          changed = count_all (λ (x : Session). not (x.wavelength == x.wavelength)) false ss (λ x i. not_from_true _ (eq-eqb x.wavelength x.wavelength refl));
           both = omega arith;
         }
 
   swap_low : (p q w : ℕ) → p < W → q < W → w < W → swap p q w < W
-  swap_low p q w h k l = elim (swap_cases p q w) [ inl e ↦ omega arith | inr (inl e) ↦ omega arith | inr (inr e) ↦ omega arith ]
+  swap_low p q w h k l = grind arith
 
   shift_low : (p q : ℕ) → p < W → q < W → (c : Bool) (x : Session) → In x ss → (cond c (moved p q x) x).wavelength < W
   shift_low p q h k true x i = swap_low p q x.wavelength h k (sound.low x i)
@@ -92,7 +85,7 @@ module _ (g : ℕ → ℕ) (W G : ℕ) (ss : List Session) (sound : Colouring g 
         (λ x k h. let f = free x k (h ∙ e) in (λ u. f.0 (u ∙ d), λ u. f.1 (u ∙ c)))
 
     -- each session of the chain gets another wavelength, and no other does
-    whole_changed : (r : Session) (r-in : In r ss) (r-on : (r.wavelength ≡ p) ⊎ (r.wavelength ≡ q)) (r-unreached : Unreached (λ x. In x ss) (next g ss p q) r) → count_by (λ x. not (eqb (cond (among (chain (next g ss p q) (2 * G) (Some r)) x) (moved p q x) x).wavelength x.wavelength)) ss ≡ length (chain (next g ss p q) (2 * G) (Some r))
+    whole_changed : (r : Session) (r-in : In r ss) (r-on : (r.wavelength ≡ p) ⊎ (r.wavelength ≡ q)) (r-unreached : Unreached (λ x. In x ss) (next g ss p q) r) → count_by (λ x. not ((cond (among (chain (next g ss p q) (2 * G) (Some r)) x) (moved p q x) x).wavelength == x.wavelength)) ss ≡ length (chain (next g ss p q) (2 * G) (Some r))
     whole_changed r i o unreached =
         omega (arith, length-filter changes ss, at_most, at_least)
       where
@@ -106,63 +99,51 @@ module _ (g : ℕ → ℕ) (W G : ℕ) (ss : List Session) (sound : Colouring g 
         part x k = (standing x k).0
 
         changes : Session → Bool
-        changes x = not (eqb (cond (among es x) (moved p q x) x).wavelength x.wavelength)
+        changes x = not ((cond (among es x) (moved p q x) x).wavelength == x.wavelength)
 
-        distinct : Distinct ss
-        distinct = pairwise_weaker Unlike (λ x y. x ≡ y → ⊥) ss (λ x y u v h e. h (ap (λ (z : Session). z.number) e)) sound.unlike
-
-        stayed : (x : Session) (c : Bool) → among es x ≡ c → not (eqb (cond c (moved p q x) x).wavelength x.wavelength) ≡ true → among es x ≡ true
-        stayed x true e h = e
-        stayed x false e h = absurd (both_ways _ (not-true _ h) (eq-eqb x.wavelength x.wavelength refl))
+        stayed : (x : Session) → changes x ≡ true → among es x ≡ true
+        stayed x h = grind arith
 
         differs : (x : Session) → In x es → swap p q x.wavelength ≡ x.wavelength → ⊥
-        differs x k e =
-            let n = differ g W G ss sound a b p q s t m in
-            elim (swap_cases p q x.wavelength) [
-              | inl h ↦ n (sym h.0 ∙ (sym e ∙ h.1))
-              | inr (inl h) ↦ n (sym h.1 ∙ (e ∙ h.0))
-              | inr (inr h) ↦ elim (standing x k).1 [ inl u ↦ h.0 u | inr u ↦ h.1 u ]
-            ]
+        differs x k e = let n = differ g W G ss sound a b p q s t m in elim (standing x k).1 [ inl u ↦ grind (arith, n) | inr u ↦ grind (arith, n) ]
 
         at_most : length (filter changes ss) ≤ length es
         at_most =
-            pigeon (filter changes ss) es (pairwise_kept (λ x y. x ≡ y → ⊥) changes ss distinct)
-            (λ x k. let h = in_kept changes x ss k in among_says ss sound.unlike es part x h.0 (stayed x (among es x) refl h.1))
+            pigeon (filter changes ss) es (pairwise_kept (λ x y. x ≡ y → ⊥) changes ss (unlike_distinct ss sound.unlike))
+            (λ x k. let h = in_kept changes x ss k in among_says ss sound.unlike es part x h.0 (stayed x h.1))
 
         at_least : length es ≤ length (filter changes ss)
         at_least =
             pigeon es (filter changes ss) (whole_distinct g W G ss sound a b p q s t m r i o unreached)
             (λ x k. kept_in changes x ss (part x k) (rw (among_from ss sound.unlike es part x k) (not_from_false _ (ne_eqb (swap p q x.wavelength) x.wavelength (differs x k)))))
 
-    shorter_good : (c : Bool) → leb (length (chain (next g ss p q) (2 * G) (Some s))) (length (chain (next g ss p q) (2 * G) (Some t))) ≡ c → Good g W G ss a b (shorter p q (chain (next g ss p q) (2 * G) (Some s)) (chain (next g ss p q) (2 * G) (Some t)) c)
+    -- the chain from r moves, and v is free afterwards
+    chain_good : (r : Session) (r-in : In r ss) (r-on : (r.wavelength ≡ p) ⊎ (r.wavelength ≡ q)) (r-unreached : Unreached (λ x. In x ss) (next g ss p q) r) → (v : ℕ) → v < W → ((x : Session) → In x ss → (cond (among (chain (next g ss p q) (2 * G) (Some r)) x) (moved p q x) x).wavelength ≡ v → (g x.source ≡ a → ⊥) × (g x.destination ≡ b → ⊥)) → length (chain (next g ss p q) (2 * G) (Some r)) + 1 ≤ G → Good g W G ss a b (record { gives = v; p = p; q = q; from_source = chain (next g ss p q) (2 * G) (Some s); from_destination = chain (next g ss p q) (2 * G) (Some t); moving = chain (next g ss p q) (2 * G) (Some r) })
+    chain_good r i o unreached v v_low free few =
+        record {
+          clear = whole_clear g W G ss sound a b p q s t m r i o unreached;
+          free = free;
+          gives_low = v_low;
+          stays_low = λ x k. shift_low p q p_low q_low _ x k;
+          few = few;
+          serves = whole_serves r i o unreached v v_low free;
+          changed = whole_changed r i o unreached;
+          both = both_short g W G ss sound a b p q s t m;
+        }
+
+    shorter_good : (c : Bool) → nat_le (length (chain (next g ss p q) (2 * G) (Some s))) (length (chain (next g ss p q) (2 * G) (Some t))) ≡ c → Good g W G ss a b (shorter p q (chain (next g ss p q) (2 * G) (Some s)) (chain (next g ss p q) (2 * G) (Some t)) c)
     shorter_good true e =
-        record {
-          clear = whole_clear g W G ss sound a b p q s t m s m.s_in (inr m.s_on) (s_unreached g W G ss sound a b p q s t m);
-          free = q_free g W G ss sound a b p q s t m;
-          gives_low = q_low;
-          stays_low = λ x i. shift_low p q p_low q_low _ x i;
-          serves = whole_serves s m.s_in (inr m.s_on) (s_unreached g W G ss sound a b p q s t m) q q_low (q_free g W G ss sound a b p q s t m);
-          changed = whole_changed s m.s_in (inr m.s_on) (s_unreached g W G ss sound a b p q s t m);
-          few = omega (arith, leb-true _ _ e, both_short g W G ss sound a b p q s t m);
-          both = both_short g W G ss sound a b p q s t m;
-        }
+        chain_good s m.s_in (inr m.s_on) (s_unreached g W G ss sound a b p q s t m) q q_low (q_free g W G ss sound a b p q s t m)
+        (omega (arith, leb-true _ _ e, both_short g W G ss sound a b p q s t m))
     shorter_good false e =
-        record {
-          clear = whole_clear g W G ss sound a b p q s t m t m.t_in (inl m.t_on) (t_unreached g W G ss sound a b p q s t m);
-          free = p_free g W G ss sound a b p q s t m;
-          gives_low = p_low;
-          stays_low = λ x i. shift_low p q p_low q_low _ x i;
-          serves = whole_serves t m.t_in (inl m.t_on) (t_unreached g W G ss sound a b p q s t m) p p_low (p_free g W G ss sound a b p q s t m);
-          changed = whole_changed t m.t_in (inl m.t_on) (t_unreached g W G ss sound a b p q s t m);
-          few = omega (arith, leb-false _ _ e, both_short g W G ss sound a b p q s t m);
-          both = both_short g W G ss sound a b p q s t m;
-        }
+        chain_good t m.t_in (inl m.t_on) (t_unreached g W G ss sound a b p q s t m) p p_low (p_free g W G ss sound a b p q s t m)
+        (omega (arith, leb-false _ _ e, both_short g W G ss sound a b p q s t m))
 
     exchange_good : first (leaves g q a) ss ≡ Some s → first (enters g p b) ss ≡ Some t → Good g W G ss a b (exchange g ss G a b p q)
     exchange_good d e = rw (d, e) (shorter_good _ refl)
 
   pub plan_good : up_load g ss W a < W → down_load g ss W b < W → Good g W G ss a b (plan g ss W G a b)
-  plan_good up down = go (ltb (lowest free W) W) refl
+  plan_good up down = go (nat_lt (lowest free W) W) refl
     where
       free : ℕ → Bool
       free v = not (lit_out g ss a v) && not (lit_into g ss b v)
@@ -188,19 +169,13 @@ module _ (g : ℕ → ℕ) (W G : ℕ) (ss : List Session) (sound : Colouring g 
       -- no wavelength is free at both ends, so q is lit out of a, and p into b
       q_out : W ≤ lowest free W → lit_out g ss a q ≡ true
       q_out l =
-          elim (cases_Bool (lit_out g ss a q)) [
-            | inl e ↦ e
-            | inr e ↦ absurd (both_ways (free q) (lowest_none free W l q q_low) (and_from _ _ (not_from_false _ e) (not_from_false _ q_in)))
-          ]
+          true_from_ne_false _ (λ e. both_ways (free q) (lowest_none free W l q q_low) (and_from _ _ (not_from_false _ e) (not_from_false _ q_in)))
 
       p_in : W ≤ lowest free W → lit_into g ss b p ≡ true
       p_in l =
-          elim (cases_Bool (lit_into g ss b p)) [
-            | inl e ↦ e
-            | inr e ↦ absurd (both_ways (free p) (lowest_none free W l p p_low) (and_from _ _ (not_from_false _ p_out) (not_from_false _ e)))
-          ]
+          true_from_ne_false _ (λ e. both_ways (free p) (lowest_none free W l p p_low) (and_from _ _ (not_from_false _ p_out) (not_from_false _ e)))
 
-      go : (c : Bool) → ltb (lowest free W) W ≡ c → Good g W G ss a b (elim c [ true ↦ direct (lowest free W) | false ↦ exchange g ss G a b p q ])
+      go : (c : Bool) → nat_lt (lowest free W) W ≡ c → Good g W G ss a b (elim c [ true ↦ direct (lowest free W) | false ↦ exchange g ss G a b p q ])
       go true e =
           let l = ltb-true _ _ e in
           let k = and_parts _ _ (lowest_passes free W l) in

@@ -41,7 +41,7 @@ module _ (L : Parts) (low_group : (s : ℕ) → s < L.sites → L.group s < L.gr
       go zero e a =
           let z = all_passed (quote_questions L ss walk n s d) (to_quote (passed (admit_questions L room ss walk n s d limit) (omega arith) e)) in
           subst (λ (v : ℕ). (quote_of v).answer ≡ quoted w m) (sym z) (cc)
-      go (suc j) e a = let z : ◌≡◌ {A = ℕ} 0 1 = cc in let no_way : ⊥ = omega arith in absurd no_way
+      go (suc j) e a = cc
 
   pub admitted_if : 2 * L.plant_groups ≤ room.orders + 1 → (w m : ℕ) → m ≤ limit → (quote L ss walk n s d).answer ≡ quoted w m → (admit L room ss walk n s d limit).answer ≡ admitted w m
   admitted_if orders w m high = go (verdict (quote_questions L ss walk n s d)) refl
@@ -51,4 +51,4 @@ module _ (L : Parts) (low_group : (s : ℕ) → s < L.sites → L.group s < L.gr
           let same : length P.moving ≡ m = cc in
           let z = all_passed (admit_questions L room ss walk n s d limit) (to_admit orders (omega (arith, same)) (passed (quote_questions L ss walk n s d) (omega arith) e)) in
           subst (λ (v : ℕ). (answered L low_group room ss k walk n s d limit v).answer ≡ admitted w m) (sym z) (cc)
-      go (suc j) e a = let z : ◌≡◌ {A = ℕ} 0 1 = cc in let no_way : ⊥ = omega arith in absurd no_way
+      go (suc j) e a = cc

@@ -1,5 +1,5 @@
 -- A release takes away the session of its number, and its order leaves a plant that carries the others.
-use Rattle.std.proofs.Common.{◌≡◌, ℕ, zero, suc, ◌+◌, Bool, true, false, cond, not, List, [], ◌∷◌, length, Some, None, Option, sym, refl, ap, ◌∙◌, inl, inr, arith}
+use Rattle.std.proofs.Common.{◌≡◌, ℕ, ◌+◌, Bool, true, false, cond, not, List, [], ◌∷◌, length, Some, None, Option, sym, refl, ap, ◌∙◌, inl, inr, arith}
 use Rattle.std.proofs.lemmas.Bool.{both_ways, eqb-true, eq-eqb, ne_eqb, not-true, not_from_false}
 use Rattle.plant.specs.Switch.{Switch}
 use Rattle.reckoning.specs.declared.session.Session.{Session}
@@ -9,13 +9,14 @@ use Rattle.reckoning.specs.Parts.{Parts}
 use Rattle.reckoning.specs.Standing.{bears, without}
 use Rattle.reckoning.specs.Sheets.{order}
 use Rattle.reckoning.specs.Questions.{Room, verdict, release_questions}
-use Rattle.reckoning.specs.Calls.{released, Reply, is_admitted, is_released, judged, release_of, release}
+use Rattle.reckoning.specs.Calls.{released, Reply, is_admitted, is_released, release_of, release}
 use Rattle.reckoning.specs.Laws.{Clear, Unlike, Sound, Carries, CarriedOut, written}
 use Rattle.reckoning.proofs.Pigeon.{in_kept, kept_in, pairwise_kept}
 use Rattle.reckoning.proofs.Sessions.{first_found, same_destination}
 use Rattle.reckoning.proofs.Exchange.{same_number}
 use Rattle.reckoning.proofs.Orders.{darken_step}
 use Rattle.reckoning.proofs.Admissions.{carrying, carried_out}
+use Rattle.reckoning.proofs.Verdicts.{judged_by}
 
 pub sound_without : (L : Parts) (ss : List Session) (n : ℕ) → Sound L ss → Sound L (without ss n)
 sound_without L ss n k =
@@ -32,9 +33,7 @@ sound_without L ss n k =
 
 without_none : (ss : List Session) (n : ℕ) → ((x : Session) → In x ss → n ≡ x.number → ⊥) → length (without ss n) ≡ length ss
 without_none [] n h = refl
-without_none (x ∷ ss) n h =
-    let rest = without_none ss n (λ y i. h y (inr i)) in
-    rw (ne_eqb x.number n (λ e. h x (inl refl) (sym e))) (ap suc rest)
+without_none (x ∷ ss) n h = grind (arith, h x (inl refl), without_none ss n (λ y i. h y (inr i)))
 
 pub without_one : (ss : List Session) → Pairwise Unlike ss → (s : Session) → In s ss → length (without ss s.number) + 1 ≡ length ss
 without_one [] u s i = absurd i
@@ -54,22 +53,16 @@ module _ (L : Parts) (room : Room) (ss : List Session) (k : Sound L ss) (walk : 
   sound_of (Some s) = sound_without L ss s.number k
 
   pub sound_release : Sound L (release L room ss walk n).after
-  sound_release = go (verdict (release_questions L room ss n))
-    where
-      go : (v : ℕ) → Sound L (judged ss walk v (release_of L ss walk (first (bears n) ss))).after
-      go zero = sound_of (first (bears n) ss)
-      go (suc j) = k
+  sound_release = judged_by (λ (r : Reply). Sound L r.after) ss walk (verdict (release_questions L room ss n)) (release_of L ss walk (first (bears n) ss)) (λ _. sound_of (first (bears n) ss)) (λ _ _. k)
 
   tally_of : (o : Option Session) → ((s : Session) → o ≡ Some s → In s ss) → (length (release_of L ss walk o).after + cond (is_released (release_of L ss walk o).answer) 1 0 ≡ length ss) × (is_admitted (release_of L ss walk o).answer ≡ false)
   tally_of None h = (omega arith, refl)
   tally_of (Some s) h = (without_one ss k.unlike s (h s refl), refl)
 
   pub release_tally : (length (release L room ss walk n).after + cond (is_released (release L room ss walk n).answer) 1 0 ≡ length ss) × (is_admitted (release L room ss walk n).answer ≡ false)
-  release_tally = go (verdict (release_questions L room ss n))
-    where
-      go : (v : ℕ) → (length (judged ss walk v (release_of L ss walk (first (bears n) ss))).after + cond (is_released (judged ss walk v (release_of L ss walk (first (bears n) ss))).answer) 1 0 ≡ length ss) × (is_admitted (judged ss walk v (release_of L ss walk (first (bears n) ss))).answer ≡ false)
-      go zero = tally_of (first (bears n) ss) (λ s e. (first_found (bears n) ss s e).0)
-      go (suc j) = (omega arith, refl)
+  release_tally =
+      judged_by (λ (r : Reply). (length r.after + cond (is_released r.answer) 1 0 ≡ length ss) × (is_admitted r.answer ≡ false)) ss walk (verdict (release_questions L room ss n)) (release_of L ss walk (first (bears n) ss))
+      (λ _. tally_of (first (bears n) ss) (λ s e. (first_found (bears n) ss s e).0)) (λ _ _. (omega arith, refl))
 
   module _ (t : Switch) (c : Carries L ss t) where
     serves_of : (o : Option Session) → ((s : Session) → o ≡ Some s → In s ss) → CarriedOut (Carries L (release_of L ss walk o).after) t [] (written (release_of L ss walk o).orders)
@@ -90,11 +83,9 @@ module _ (L : Parts) (room : Room) (ss : List Session) (k : Sound L ss) (walk : 
         )
 
     pub release_serves : CarriedOut (Carries L (release L room ss walk n).after) t [] (written (release L room ss walk n).orders)
-    release_serves = go (verdict (release_questions L room ss n))
-      where
-        go : (v : ℕ) → CarriedOut (Carries L (judged ss walk v (release_of L ss walk (first (bears n) ss))).after) t [] (written (judged ss walk v (release_of L ss walk (first (bears n) ss))).orders)
-        go zero = serves_of (first (bears n) ss) (λ s e. (first_found (bears n) ss s e).0)
-        go (suc j) = c
+    release_serves =
+        judged_by (λ (r : Reply). CarriedOut (Carries L r.after) t [] (written r.orders)) ss walk (verdict (release_questions L room ss n)) (release_of L ss walk (first (bears n) ss))
+        (λ _. serves_of (first (bears n) ss) (λ s e. (first_found (bears n) ss s e).0)) (λ _ _. c)
 
 -- ---- the answer
 
@@ -109,15 +100,13 @@ pub record Released (ss : List Session) (n w : ℕ) (r : Reply) : Type 0 where
 
 module _ (L : Parts) (room : Room) (ss : List Session) (walk : List ℕ) (n w : ℕ) where
   released_of : (o : Option Session) → ((s : Session) → o ≡ Some s → In s ss × (bears n s ≡ true)) → (release_of L ss walk o).answer ≡ released w → Released ss n w (release_of L ss walk o)
-  released_of None h a = let z : ◌≡◌ {A = ℕ} 0 1 = cc in let e : ⊥ = omega arith in absurd e
+  released_of None h a = let no : ⊥ = cc in absurd no
   released_of (Some s) h a =
       let i = h s refl in
       let same : s.number ≡ n = eqb-true _ _ i.1 in
       record { gone = s; stood = i.0; number = same; wavelength = cc; after = ap (without ss) same; ordered = refl }
 
   pub released_says : (release L room ss walk n).answer ≡ released w → Released ss n w (release L room ss walk n)
-  released_says = go (verdict (release_questions L room ss n))
-    where
-      go : (v : ℕ) → (judged ss walk v (release_of L ss walk (first (bears n) ss))).answer ≡ released w → Released ss n w (judged ss walk v (release_of L ss walk (first (bears n) ss)))
-      go zero a = released_of (first (bears n) ss) (first_found (bears n) ss) a
-      go (suc j) a = let z : ◌≡◌ {A = ℕ} 0 1 = cc in let e : ⊥ = omega arith in absurd e
+  released_says =
+      judged_by (λ (r : Reply). r.answer ≡ released w → Released ss n w r) ss walk (verdict (release_questions L room ss n)) (release_of L ss walk (first (bears n) ss))
+      (λ _. released_of (first (bears n) ss) (first_found (bears n) ss)) (λ _ _ a. let no : ⊥ = cc in absurd no)

@@ -6,10 +6,10 @@ use Rattle.reckoning.specs.Lists.{In, Pairwise, first, flat, as_list}
 use Rattle.reckoning.specs.Parts.{Parts}
 use Rattle.reckoning.specs.Standing.{leaves}
 use Rattle.reckoning.specs.Sheets.{rows_of}
-use Rattle.reckoning.specs.Laws.{Unlike, Sound}
+use Rattle.reckoning.specs.Laws.{Sound}
 use Rattle.reckoning.specs.Runs.{Before}
 use Rattle.reckoning.proofs.Pigeon.{pigeon, in_counting, rising_counting, in_left, in_right, in_either, pairwise_append, pairwise_weaker}
-use Rattle.reckoning.proofs.Sessions.{first_found, first_hit, leaves_says, leaves_from, same_source}
+use Rattle.reckoning.proofs.Sessions.{unlike_distinct, first_found, first_hit, leaves_says, leaves_from, same_source}
 
 pub in_flat : {A B : Type 0} (f : A → List B) (x : A) (y : B) (xs : List A) → In x xs → In y (f x) → In y (flat f xs)
 in_flat f x y [] i j = absurd i
@@ -97,6 +97,5 @@ module _ (L : Parts) (ss : List Session) (k : Sound L ss) where
 
   pub rows_length : length (rows_of L ss) ≡ length ss
   rows_length =
-      let distinct = pairwise_weaker Unlike (λ x y. x ≡ y → ⊥) ss (λ x y u v h e. h (ap (λ (z : Session). z.number) e)) k.unlike in
       let distinct_rows = pairwise_weaker (Before L) (λ x y. x ≡ y → ⊥) (rows_of L ss) (λ x y i j. before_differs x y) rows_sorted in
-      omega (arith, pigeon (rows_of L ss) ss distinct_rows of_row, pigeon ss (rows_of L ss) distinct row_of)
+      omega (arith, pigeon (rows_of L ss) ss distinct_rows of_row, pigeon ss (rows_of L ss) (unlike_distinct ss k.unlike) row_of)

@@ -1,11 +1,10 @@
 -- Runs put together and taken apart, what they answer, and the start of a controller that is new.
-use Rattle.std.proofs.Common.{◌≡◌, ℕ, zero, suc, ◌<◌, true, false, not, List, [], ◌∷◌, ◌++◌, map, length, is_some, None, Option, sym, refl, ap, ◌∙◌, subst, inl, inr, arith}
-use Rattle.std.proofs.lemmas.Bool.{cases_eq, both_ways, and_parts, and_from, not-true}
+use Rattle.std.proofs.Common.{◌≡◌, ℕ, zero, suc, ◌<◌, true, false, List, [], ◌∷◌, ◌++◌, map, is_some, None, Option, sym, refl, ap, ◌∙◌, subst, inl, inr, arith}
+use Rattle.std.proofs.lemmas.Bool.{cases_eq, both_ways, and_parts, and_from}
 use Rattle.network.specs.Network.{Network}
 use Rattle.plant.specs.Switch.{Switch, Proper, dark_switch}
 use Rattle.reckoning.specs.declared.session.Session.{Session}
 use Rattle.reckoning.specs.declared.call.Call.{Call}
-use Rattle.reckoning.specs.declared.call.Call.TheVariants.{List as Rows}
 use Rattle.reckoning.specs.Parts.{Parts, parts_told, quiet, dark_below, is_dark}
 use Rattle.reckoning.specs.Questions.{Room}
 use Rattle.reckoning.specs.Calls.{Answer, Reply, replies, standing_after}
@@ -25,12 +24,6 @@ module _ (R : Call → Answer → Moment → Moment → Type 0) where
   run_more (d ∷ cs) [] c a m m' m'' e x = absurd e
   run_more (d ∷ cs) (b ∷ rest) c a m m' m'' (u, y, run) x = (u, y, run_more cs rest c a u m' m'' run x)
 
-  pub run_length : (calls : List Call) (answers : List Answer) (m m' : Moment) → Run R calls answers m m' → length answers ≡ length calls
-  run_length [] [] m m' e = refl
-  run_length [] (a ∷ rest) m m' e = absurd e
-  run_length (c ∷ cs) [] m m' e = absurd e
-  run_length (c ∷ cs) (a ∷ rest) m m' (u, y, run) = ap suc (run_length cs rest u m' run)
-
   -- the last call, and the run before it
   pub run_last : (calls : List Call) (c : Call) (answers : List Answer) (m m'' : Moment) → Run R (calls ++ (c ∷ [])) answers m m'' →
       (m' : Moment) × (before : List Answer) × (a : Answer) × Run R calls before m m' × R c a m' m'' × (answers ≡ before ++ (a ∷ []))
@@ -41,11 +34,6 @@ module _ (R : Call → Answer → Moment → Moment → Type 0) where
   run_last (d ∷ cs) c (b ∷ rest) m m'' (u, y, run) =
       let r = run_last cs c rest u m'' run in
       (r.0, b ∷ r.1, r.2, (u, y, r.3), r.4, ap (λ (l : List Answer). b ∷ l) r.5)
-
--- a run that ends in a list: the rows are those of its reply
-pub rows_after : (L : Parts) (calls : List Call) (answers : List Answer) (m m'' : Moment) → Run (Answered L) (calls ++ (Rows ∷ [])) answers m m'' →
-    (m' : Moment) × (before : List Answer) × (a : Answer) × Run (Answered L) calls before m m' × Answered L Rows a m' m'' × (answers ≡ before ++ (a ∷ []))
-rows_after L calls answers m m'' run = run_last (Answered L) calls Rows answers m m'' run
 
 -- ---- what a run answers
 
@@ -73,9 +61,7 @@ run_replies L (c ∷ cs) (a ∷ rest) m m'' (m', x, run) =
 
 quiet_says : (hears : ℕ → ℕ → Option ℕ) (w n : ℕ) → quiet hears w n ≡ true → (b : ℕ) → b < n → is_some (hears w b) ≡ false
 quiet_says hears w zero q b l = let e : ⊥ = omega arith in absurd e
-quiet_says hears w (suc n) q b l =
-    let p = and_parts (not (is_some (hears w n))) (quiet hears w n) q in
-    elim (cases_eq b n) [ inl e ↦ rw e (not-true _ p.0) | inr e ↦ quiet_says hears w n p.1 b (omega arith) ]
+quiet_says hears w (suc n) q b l = grind (arith, quiet_says hears w n)
 
 dark_says : (hears : ℕ → ℕ → Option ℕ) (G W : ℕ) → dark_below hears G W ≡ true → (w b : ℕ) → w < W → b < G → is_some (hears w b) ≡ false
 dark_says hears G zero q w b l u = let e : ⊥ = omega arith in absurd e

@@ -1,6 +1,6 @@
 -- The test of soundness says that the sessions are sound, and passes where they are.
-use Rattle.std.proofs.Common.{◌≡◌, ℕ, ◌<◌, Bool, true, false, not, ◌&&◌, List, [], ◌∷◌, refl, ap, ◌∙◌, inl, inr}
-use Rattle.std.proofs.lemmas.Bool.{cases_Bool, both_ways, and_parts, and_from, not-true, not_from_false, or_cases, or_left, or_right, eqb-true, eq-eqb, ne_eqb, ltb-true, lt-ltb}
+use Rattle.std.proofs.Common.{◌≡◌, ℕ, ◌<◌, Bool, true, false, not, ◌&&◌, List, [], ◌∷◌, refl, ap, ◌∙◌, inl, inr, arith}
+use Rattle.std.proofs.lemmas.Bool.{both_ways, false_from_ne_true, and_parts, and_from, not-true, not_from_false}
 use Rattle.network.specs.Network.{Ends}
 use Rattle.reckoning.specs.declared.session.Session.{Session}
 use Rattle.reckoning.specs.Lists.{In, Pairwise, any}
@@ -11,23 +11,16 @@ use Rattle.reckoning.proofs.Sessions.{any_hit, any_some}
 
 module _ (g : ℕ → ℕ) (s t : Session) where
   clear_from : clash g s t ≡ false → Clear g s t
-  clear_from h w = (
-    λ e. both_ways _ h (or_right _ _ (and_from _ _ (eq-eqb _ _ w) (or_left _ _ (eq-eqb _ _ e)))),
-    λ e. both_ways _ h (or_right _ _ (and_from _ _ (eq-eqb _ _ w) (or_right _ _ (eq-eqb _ _ e)))),
-  )
+  clear_from h w = (λ e. grind arith, λ e. grind arith)
 
   unlike_from : clash g s t ≡ false → Unlike s t
-  unlike_from h e = both_ways _ h (or_left _ _ (eq-eqb _ _ e))
+  unlike_from h e = grind arith
 
   no_clash : Clear g s t → Unlike s t → clash g s t ≡ true → ⊥
-  no_clash c u h =
-      elim (or_cases _ _ h) [
-        | inl e ↦ u (eqb-true _ _ e)
-        | inr e ↦ let k = and_parts _ _ e in elim (or_cases _ _ k.1) [ inl d ↦ (c (eqb-true _ _ k.0)).0 (eqb-true _ _ d) | inr d ↦ (c (eqb-true _ _ k.0)).1 (eqb-true _ _ d) ]
-      ]
+  no_clash c u h = grind arith
 
 any_out : (p : Session → Bool) (xs : List Session) → any p xs ≡ false → (x : Session) → In x xs → p x ≡ false
-any_out p xs h x i = elim (cases_Bool (p x)) [ inl t ↦ absurd (both_ways _ h (any_hit p xs x i t)) | inr f ↦ f ]
+any_out p xs h x i = false_from_ne_true _ (λ t. both_ways _ h (any_hit p xs x i t))
 
 -- what one session's part of the test says
 record Placed (L : Parts) (s : Session) : Type 0 where
@@ -37,24 +30,10 @@ record Placed (L : Parts) (s : Session) : Type 0 where
 
 placed_says : (L : Parts) (s : Session) → placed L s ≡ true → Placed L s
 placed_says L s h =
-    let k = and_parts _ _ h in
-    let l = and_parts _ _ k.1 in
-    let m = and_parts _ _ l.1 in
-    let n = and_parts _ _ m.1 in
-    let o = and_parts _ _ n.1 in
-    record {
-      low = ltb-true _ _ k.0;
-      grouped = (ltb-true _ _ l.0, ltb-true _ _ m.0);
-      ends = record { source = ltb-true _ _ n.0; destination = ltb-true _ _ o.0; differ = λ e. both_ways _ (not-true _ o.1) (eq-eqb _ _ e) };
-    }
+    record { low = grind arith; grouped = (grind arith, grind arith); ends = record { source = grind arith; destination = grind arith; differ = λ e. grind arith } }
 
 placed_from : (L : Parts) (s : Session) → Placed L s → placed L s ≡ true
-placed_from L s h =
-    and_from _ _ (lt-ltb _ _ h.low)
-    (and_from _ _ (lt-ltb _ _ h.grouped.0)
-    (and_from _ _ (lt-ltb _ _ h.grouped.1)
-    (and_from _ _ (lt-ltb _ _ h.ends.source)
-    (and_from _ _ (lt-ltb _ _ h.ends.destination) (not_from_false _ (ne_eqb _ _ h.ends.differ))))))
+placed_from L s h = grind arith
 
 module _ (L : Parts) where
   parts : (s : Session) (ss : List Session) → sound_test L (s ∷ ss) ≡ true → (placed L s ≡ true) × (any (clash L.group s) ss ≡ false) × (sound_test L ss ≡ true)
@@ -64,17 +43,11 @@ module _ (L : Parts) where
       let m = and_parts (not (any (clash L.group s) ss)) (sound_test L ss) k.1 in
       (k.0, not-true (any (clash L.group s) ss) m.0, m.1)
 
-  clears : (ss : List Session) → sound_test L ss ≡ true → Pairwise (Clear L.group) ss
-  clears [] h = tt
-  clears (s ∷ ss) h =
+  apart_all : (R : Session → Session → Type 0) → ((s t : Session) → clash L.group s t ≡ false → R s t) → (ss : List Session) → sound_test L ss ≡ true → Pairwise R ss
+  apart_all R from [] h = tt
+  apart_all R from (s ∷ ss) h =
       let k = parts s ss h in
-      (λ y i. clear_from L.group s y (any_out (clash L.group s) ss k.1 y i), clears ss k.2)
-
-  unlikes : (ss : List Session) → sound_test L ss ≡ true → Pairwise Unlike ss
-  unlikes [] h = tt
-  unlikes (s ∷ ss) h =
-      let k = parts s ss h in
-      (λ y i. unlike_from L.group s y (any_out (clash L.group s) ss k.1 y i), unlikes ss k.2)
+      (λ y i. from s y (any_out (clash L.group s) ss k.1 y i), apart_all R from ss k.2)
 
   each_placed : (ss : List Session) → sound_test L ss ≡ true → (s : Session) → In s ss → Placed L s
   each_placed [] h s i = absurd i
@@ -84,8 +57,8 @@ module _ (L : Parts) where
   pub sound_from : (ss : List Session) → sound_test L ss ≡ true → Sound L ss
   sound_from ss h =
       record {
-        clear = clears ss h;
-        unlike = unlikes ss h;
+        clear = apart_all (Clear L.group) (clear_from L.group) ss h;
+        unlike = apart_all Unlike (unlike_from L.group) ss h;
         low = λ s i. (each_placed ss h s i).low;
         grouped = λ s i. (each_placed ss h s i).grouped;
         placed = λ s i. (each_placed ss h s i).ends;
@@ -99,10 +72,7 @@ module _ (L : Parts) where
     where
       apart : any (clash L.group s) ss ≡ false
       apart =
-          elim (cases_Bool (any (clash L.group s) ss)) [
-            | inl t ↦ let r = any_some (clash L.group s) ss t in absurd (no_clash L.group s r.0 (c.0 r.0 r.1) (u.0 r.0 r.1) r.2)
-            | inr f ↦ f
-          ]
+          false_from_ne_true _ (λ t. let r = any_some (clash L.group s) ss t in no_clash L.group s r.0 (c.0 r.0 r.1) (u.0 r.0 r.1) r.2)
 
   pub sound_to : (ss : List Session) → Sound L ss → sound_test L ss ≡ true
   sound_to ss k = test_from ss k.clear k.unlike (λ s i. record { low = k.low s i; grouped = k.grouped s i; ends = k.placed s i })

@@ -1,5 +1,5 @@
 -- One call keeps to the law: what it answers and what it leaves, from a start that is sound.
-use Rattle.std.proofs.Common.{◌≡◌, ℕ, zero, suc, ◌+◌, ◌*◌, ◌<◌, Bool, true, cond, not, List, [], ◌∷◌, length, drop, Some, None, Option, sym, refl, ap, ◌∙◌, subst, inl, inr, arith}
+use Rattle.std.proofs.Common.{◌≡◌, ℕ, ◌+◌, ◌*◌, ◌<◌, Bool, true, cond, not, List, [], ◌∷◌, length, drop, Some, None, Option, sym, refl, ap, ◌∙◌, subst, inl, inr, arith}
 use Rattle.std.proofs.lemmas.List.{take_at}
 use Rattle.std.proofs.lemmas.Bool.{both_ways, eqb-true, eq-eqb, ne_eqb, not-true, not_from_false}
 use Rattle.network.specs.Network.{Network, Grouped, Separate, Meeting}
@@ -16,11 +16,12 @@ use Rattle.reckoning.specs.Sheets.{rows_of}
 use Rattle.reckoning.specs.Questions.{Room, verdict, numbered, where_questions, list_questions}
 use Rattle.reckoning.specs.Calls.{Answer, found, listed, released, Reply, new_session, unchanged, judged, where_of, locate, list, is_admitted, is_released}
 use Rattle.reckoning.specs.Laws.{Clear, Unlike, Sound, Meet, Carries, CarriedOut, written, retuned, Blocked}
-use Rattle.reckoning.specs.Runs.{Page, records, rewritten, Moment, room_in, reply_in, Answered, OfAdmit, OfRelease, OfQuote, OfWhere, Before, OfList, OfCall, PortsServe, Step}
+use Rattle.sheet.specs.Sheets.{Page, records, rewritten}
+use Rattle.reckoning.specs.Runs.{Moment, room_in, reply_in, Answered, OfAdmit, OfRelease, OfQuote, OfWhere, Before, OfList, OfCall, PortsServe, Step}
 use Rattle.reckoning.proofs.Pigeon.{in_kept, kept_in, pairwise_weaker}
 use Rattle.reckoning.proofs.Sessions.{first_found, first_hit, any_hit}
 use Rattle.reckoning.proofs.Exchange.{same_number}
-use Rattle.reckoning.proofs.Verdicts.{went_on}
+use Rattle.reckoning.proofs.Verdicts.{went_on, judged_by}
 use Rattle.reckoning.proofs.Admissions.{moves, limit_serves}
 use Rattle.reckoning.proofs.Blocking.{Shared, Common, blocked_then, blocked_when}
 use Rattle.reckoning.proofs.Quotes.{quoted_if, admitted_if}
@@ -61,17 +62,15 @@ found_is : (x : Session) (n w s d : ℕ) → x.number ≡ n → found x.waveleng
 found_is x n w s d e a = let same : new_session n s d w ≡ new_session x.number x.source x.destination x.wavelength = cc in same
 
 found_of : (ss : List Session) (n w s d : ℕ) (o : Option Session) → ((x : Session) → o ≡ Some x → In x ss × (bears n x ≡ true)) → where_of o ≡ found w s d → In (new_session n s d w) ss
-found_of ss n w s d None h a = let z : ◌≡◌ {A = ℕ} 0 1 = cc in let e : ⊥ = omega arith in absurd e
+found_of ss n w s d None h a = let no : ⊥ = cc in absurd no
 found_of ss n w s d (Some x) h a =
     let i = h x refl in
     subst (λ (y : Session). In y ss) (sym (found_is x n w s d (eqb-true _ _ i.1) a)) i.0
 
 found_says : (L : Parts) (ss : List Session) (walk : List ℕ) (n w s d : ℕ) → (locate L ss walk n).answer ≡ found w s d → In (new_session n s d w) ss
-found_says L ss walk n w s d = go (verdict (where_questions L ss n))
-  where
-    go : (v : ℕ) → (judged ss walk v (unchanged ss walk (where_of (first (bears n) ss)))).answer ≡ found w s d → In (new_session n s d w) ss
-    go zero a = found_of ss n w s d (first (bears n) ss) (first_found (bears n) ss) a
-    go (suc j) a = let z : ◌≡◌ {A = ℕ} 0 1 = cc in let e : ⊥ = omega arith in absurd e
+found_says L ss walk n w s d =
+    judged_by (λ (r : Reply). r.answer ≡ found w s d → In (new_session n s d w) ss) ss walk (verdict (where_questions L ss n)) (unchanged ss walk (where_of (first (bears n) ss)))
+    (λ _. found_of ss n w s d (first (bears n) ss) (first_found (bears n) ss)) (λ _ _ a. let no : ⊥ = cc in absurd no)
 
 -- numbers differ, so the first session that bears it is the only one
 found_there : (L : Parts) (ss : List Session) → Pairwise Unlike ss → (walk : List ℕ) (n : ℕ) → verdict (numbered L n) ≡ 0 →
@@ -92,11 +91,9 @@ module _ (L : Parts) (room : Room) (ss : List Session) (walk : List ℕ) (k : �
   listing = record { answer = listed (length ss); orders = None; rows = Some (rows_of L ss); walk = walk; after = ss }
 
   listed_says : (list L room ss walk).answer ≡ listed k → (k ≡ length ss) × ((list L room ss walk).rows ≡ Some (rows_of L ss))
-  listed_says = go (verdict (list_questions L room ss))
-    where
-      go : (v : ℕ) → (judged ss walk v listing).answer ≡ listed k → (k ≡ length ss) × ((judged ss walk v listing).rows ≡ Some (rows_of L ss))
-      go zero a = let same : k ≡ length ss = cc in (same, refl)
-      go (suc j) a = let z : ◌≡◌ {A = ℕ} 0 1 = cc in let e : ⊥ = omega arith in absurd e
+  listed_says =
+      judged_by (λ (r : Reply). r.answer ≡ listed k → (k ≡ length ss) × (r.rows ≡ Some (rows_of L ss))) ss walk (verdict (list_questions L room ss)) listing
+      (λ _ a. let same : k ≡ length ss = cc in (same, refl)) (λ _ _ a. let no : ⊥ = cc in absurd no)
 
 -- ---- the call
 

@@ -1,5 +1,5 @@
 -- Where all wavelengths are lit out of a group, or into it, no table has room for one session more there.
-use Rattle.std.proofs.Common.{◌≡◌, ℕ, ◌<◌, ◌≤◌, Bool, true, eqb, List, ◌∷◌, map, length, count_by, filter, sym, ap, ◌∙◌, subst, inl, inr, arith}
+use Rattle.std.proofs.Common.{◌≡◌, ℕ, ◌<◌, ◌≤◌, Bool, true, List, ◌∷◌, map, length, count_by, filter, sym, ap, ◌∙◌, subst, inl, inr, arith, ◌==◌}
 use Rattle.std.specs.List.{range_with_len}
 use Rattle.std.proofs.lemmas.Bool.{eqb-true, eq-eqb}
 use Rattle.std.proofs.lemmas.List.Sums.{length-filter}
@@ -14,7 +14,7 @@ crowded W n ss h lit shown full wave low differ =
     omega (arith, many, room, full, length-filter lit (range_with_len 0 W), length-map xs (λ x. x.wavelength), length-map (n ∷ xs) wave)
   where
     here : Session → Bool
-    here s = eqb (h s) (h n)
+    here s = h s == h n
 
     xs : List Session
     xs = filter here ss

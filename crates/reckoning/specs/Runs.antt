@@ -1,8 +1,9 @@
 -- A controller as it is seen between two calls, and the law that every run of its calls keeps.
-use Rattle.std.specs.Prelude.{◌≡◌, ℕ, ◌+◌, ◌*◌, ◌<◌, ◌≤◌, ◌⊎◌, List, [], ◌∷◌, ◌++◌, map, length, take, drop, Some, None, count_by, Option, ◌≢◌}
+use Rattle.std.specs.Prelude.{◌≡◌, ℕ, ◌+◌, ◌*◌, ◌<◌, ◌≤◌, ◌⊎◌, List, [], ◌∷◌, map, length, count_by, ◌≢◌}
 use Rattle.network.specs.Network.{Network, Grouped, Separate, Meeting}
 use Rattle.plant.specs.Switch.{Switch}
 use Rattle.plant.specs.Orders.{until_refused}
+use Rattle.sheet.specs.Sheets.{Page, records, rewritten}
 use Rattle.reckoning.specs.declared.session.Session.{Session}
 use Rattle.reckoning.specs.declared.order.Order.{Order}
 use Rattle.reckoning.specs.declared.call.Call.{Call}
@@ -15,19 +16,6 @@ use Rattle.reckoning.specs.Calls.{Answer, refused, admitted, quoted, released, f
 use Rattle.reckoning.specs.Laws.{Sound, Meet, NoTable, Carries, lightpaths, put, CarriedOut, written, SameEnds, retuned, Blocked}
 
 -- ---- moments
-
--- a sheet: how many records are written, and all of its places
-pub record Page (X : Type 0) : Type 0 where
-  pub count : ℕ
-  pub places : List X
-
-abbrev pub records : {X : Type 0} → Page X → List X
-records s = take s.count s.places
-
--- None leaves a sheet as it is; else it is emptied first, and the places behind what is written are kept
-abbrev pub rewritten : {X : Type 0} → Option (List X) → Page X → Page X
-rewritten None s = s
-rewritten (Some xs) s = record { count = length xs; places = xs ++ drop (length xs) s.places }
 
 -- between two calls: the standing sessions, the plant, and the caller's sheets and walk list
 pub record Moment : Type 0 where

@@ -10,9 +10,14 @@ use Rattle.reckoning.specs.Parts.{Parts}
 use Rattle.reckoning.specs.Standing.{leaves}
 use Rattle.reckoning.specs.Plans.{Plan, moved, swap}
 use Rattle.plant.specs.declared.change_over.Retuning.{Retuning}
+use Rattle.plant.specs.declared.lightpath.Lightpath.{Lightpath}
 
 abbrev pub order : (ℕ → ℕ) → Kind → Session → Order
 order g k s = record { kind = k; wavelength = s.wavelength; source = g s.source; destination = g s.destination; session = s.number }
+
+-- the lightpath of a session
+abbrev pub lightpath : (ℕ → ℕ) → Session → Lightpath
+lightpath g s = record { wavelength = s.wavelength; source = g s.source; destination = g s.destination }
 
 -- what is left once the first is dark; the list has a chain from its end to its start.
 -- Each is darkened before the one after it in the chain is lit again, since that one takes its wavelength
@@ -31,8 +36,7 @@ orders g P n = chain_orders g P.p P.q (reverse P.moving) ++ (order g Light n ∷
 
 -- a session of the moving chain, as a plant changes it over
 abbrev pub retuning : (ℕ → ℕ) → ℕ → ℕ → Session → Retuning
-retuning g p q e =
-    record { wavelength = e.wavelength; source = g e.source; destination = g e.destination; onto = swap p q e.wavelength }
+retuning g p q e = record { path = lightpath g e; onto = swap p q e.wavelength }
 
 -- a session by its wavelength and source group
 abbrev pub code : (ℕ → ℕ) → Session → ℕ

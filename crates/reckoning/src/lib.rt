@@ -2,6 +2,7 @@
 #![tactic(auto)]
 
 pub mod call;
+pub mod demand;
 pub mod order;
 pub mod session;
 

@@ -1,7 +1,7 @@
 //! A session that stands.
 
 /// From site to site, on the wavelength last given it.
-#[derive(Clone, Copy, PartialEq, Eq, Debug)]
+#[derive(Clone, Copy, PartialEq, Eq, Debug, Default)]
 pub struct Session {
     pub number: u32,
     pub source: u8,

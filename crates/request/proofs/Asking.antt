@@ -1,5 +1,5 @@
 -- A line that reads as a request has five words that ask for its act.
-use Rattle.std.proofs.Common.{◌≡◌, ℕ, ◌^◌, ◌<◌, Bool, true, false, cond, ltb, List, [], ◌∷◌, Ok, Err, codes, Result, sym, refl, ap, ◌∙◌, subst, arith}
+use Rattle.std.proofs.Common.{◌≡◌, ℕ, ◌^◌, ◌<◌, Bool, true, false, cond, nat_lt, List, [], ◌∷◌, Ok, Err, codes, Result, sym, refl, ap, ◌∙◌, subst, arith}
 use Rattle.std.specs.Str.{all_ascii_digits, bytes_eq}
 use Rattle.std.proofs.lemmas.Slice.Eq.{bytes_eq-Decides}
 use Rattle.std.proofs.lemmas.Bool.{ltb-true}
@@ -33,14 +33,14 @@ unfolding read_number
 number_writes k [] n h = absurd (refusal _ n h)
 number_writes k (d ∷ ds) n h = go (all_ascii_digits (d ∷ ds)) refl h
   where
-    size : (t : Bool) → ltb (value (d ∷ ds)) 4294967296 ≡ t → cond {A = Result ℕ NumberFault} t (Ok (value (d ∷ ds))) (Err (TooLarge k)) ≡ Ok n → (value (d ∷ ds) ≡ n) × (n < 2 ^ 32)
+    size : (t : Bool) → nat_lt (value (d ∷ ds)) 4294967296 ≡ t → cond {A = Result ℕ NumberFault} t (Ok (value (d ∷ ds))) (Err (TooLarge k)) ≡ Ok n → (value (d ∷ ds) ≡ n) × (n < 2 ^ 32)
     size true e h =
         let v : value (d ∷ ds) ≡ n = cc in
         (v, omega (arith, ltb-true _ _ e))
     size false e h = absurd (refusal (TooLarge k) n h)
 
     go : (t : Bool) → all_ascii_digits (d ∷ ds) ≡ t → cond t (sized k (value (d ∷ ds))) (Err (NotDigits k)) ≡ Ok n → Writes (d ∷ ds) n
-    go true e h = let p = size (ltb (value (d ∷ ds)) 4294967296) refl h in (omega arith, e, p.0, p.1)
+    go true e h = let p = size (nat_lt (value (d ∷ ds)) 4294967296) refl h in (omega arith, e, p.0, p.1)
     go false e h = absurd (refusal (NotDigits k) n h)
 
 dash_is : (k : ℕ) (bs : List ℕ) → dash_at k bs true ≡ Ok tt → Dashed bs

@@ -1,14 +1,20 @@
--- The search for the first byte m.
-use Rattle.std.proofs.Common.{◌≡◌, ℕ, suc, ◌+◌, ◌<◌, ◌≤◌, eqb, List, length, get_or, drop, ◌∙◌}
-use Rattle.std.proofs.lemmas.List.{at_drop_more, at_drop_all}
-use Rattle.std.proofs.lemmas.Bool.{cond-true, cond-false, eq-eqb, ne_eqb}
-use Rattle.request.specs.Cuts.{before}
+-- Bytes cut at the first byte m.
+use Rattle.std.proofs.Common.{◌≡◌, ℕ, zero, suc, ◌<◌, false, ◌==◌, Some, List, [], ◌∷◌, ◌++◌, length, get_or, take, drop, position, ap, arith}
+use Rattle.std.proofs.lemmas.Bool.{eqb-true, eqb-false}
+use Rattle.std.proofs.lemmas.List.Quantifiers.{position-Some}
+use Rattle.request.specs.Meaning.{Free}
 
-pub before_more : (m : ℕ) (bs : List ℕ) (i : ℕ) → i < length bs → (get_or bs i 0 ≡ m → ⊥) → before m (drop i bs) ≡ suc (before m (drop (i + 1) bs))
-before_more m bs i l ne = at_drop_more (before m) bs i 0 l ∙ cond-false (eqb (get_or bs i 0) m) 0 _ (ne_eqb _ m ne)
+abbrev Cut : ℕ → ℕ → List ℕ → Type 0
+Cut m n bs = Free m (take n bs) × (bs ≡ take n bs ++ m ∷ drop (suc n) bs)
 
-pub before_ends : (m : ℕ) (bs : List ℕ) (i : ℕ) → i < length bs → get_or bs i 0 ≡ m → before m (drop i bs) ≡ 0
-before_ends m bs i l e = at_drop_more (before m) bs i 0 l ∙ cond-true (eqb (get_or bs i 0) m) 0 _ (eq-eqb _ m e)
+cut : (m n : ℕ) (bs : List ℕ) → n < length bs → get_or bs n 0 ≡ m → ((k : ℕ) → k < n → (get_or bs k 0 == m) ≡ false) → Cut m n bs
+cut m n [] l e f = absurd (omega arith)
+cut m zero (b ∷ bs) l e f = (tt, ap (λ (x : ℕ). x ∷ bs) e)
+cut m (suc n) (b ∷ bs) l e f =
+    let r = cut m n bs (omega arith) e (λ k h. f (suc k) (omega arith)) in
+    ((eqb-false b m (f 0 (omega arith)), r.0), ap (λ (xs : List ℕ). b ∷ xs) r.1)
 
-pub before_all : (m : ℕ) (bs : List ℕ) (i : ℕ) → length bs ≤ i → before m (drop i bs) ≡ 0
-before_all m bs i l = at_drop_all (before m) bs i l
+pub cut_first : (m n : ℕ) (bs : List ℕ) → position (λ b. b == m) bs ≡ Some n → Cut m n bs
+cut_first m n bs h =
+    let p = position-Some (λ b. b == m) bs n 0 h in
+    cut m n bs p.0 (eqb-true _ m p.1) p.2

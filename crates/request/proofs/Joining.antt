@@ -1,15 +1,16 @@
 -- Lines and words joined again.
-use Rattle.std.proofs.Common.{◌≡◌, ℕ, ◌<◌, Bool, true, false, cond, eqb, List, [], ◌∷◌, ◌++◌, length, Ok, Err, Result, sym, refl, ap, ◌∙◌, subst, arith}
+use Rattle.std.proofs.Common.{◌≡◌, ℕ, ◌<◌, Bool, true, false, cond, ◌==◌, List, [], ◌∷◌, ◌++◌, length, Ok, Err, Result, sym, refl, ap, ◌∙◌, subst, arith}
 use Rattle.std.specs.List.{flat_map, AllByRecursion}
 use Rattle.std.proofs.lemmas.List.{append_assoc, append-nil}
-use Rattle.std.proofs.lemmas.Bool.{false≢true, cond-false, eqb-true, eqb-false, ne_eqb}
+use Rattle.std.proofs.lemmas.Bool.{false≢true, eqb-true, eqb-false}
 use Rattle.request.specs.Meaning.{Free, line_bytes, Lined, spaced, Worded}
 use Rattle.request.specs.Lines as lines
 use Rattle.request.specs.Lines.{Line, lines_of}
 use Rattle.request.specs.Words.{Five, grow, split_spaces, just_words, in_order, five_words}
 use Rattle.request.specs.declared.fault.LineFault.{LineFault}
 use Rattle.request.specs.declared.fault.LineFault.TheVariants.{Spacing}
-use Rattle.request.proofs.Splitting.{five_ok}
+use Rattle.request.proofs.Lining.{line_first, line_only}
+use Rattle.request.proofs.Splitting.{Some, some, split_some, split_first, split_only, five_ok}
 
 -- lines
 grow_joined : (b : ℕ) (ls : List Line) → flat_map line_bytes (lines.grow b ls) ≡ b ∷ flat_map line_bytes ls
@@ -18,9 +19,9 @@ grow_joined b (l ∷ ls) = refl
 
 pub lines_join : (bs : List ℕ) → flat_map line_bytes (lines_of bs) ≡ bs
 lines_join [] = refl
-lines_join (b ∷ bs) = go (eqb b 10) refl (lines_join bs)
+lines_join (b ∷ bs) = go (b == 10) refl (lines_join bs)
   where
-    go : (t : Bool) → eqb b 10 ≡ t → flat_map line_bytes (lines_of bs) ≡ bs → flat_map line_bytes (cond t (record { bytes = []; ended = true } ∷ lines_of bs) (lines.grow b (lines_of bs))) ≡ b ∷ bs
+    go : (t : Bool) → (b == 10) ≡ t → flat_map line_bytes (lines_of bs) ≡ bs → flat_map line_bytes (cond t (record { bytes = []; ended = true } ∷ lines_of bs) (lines.grow b (lines_of bs))) ≡ b ∷ bs
     go true e ih = ap (λ (x : List ℕ). 10 ∷ x) ih ∙ ap (λ (x : ℕ). x ∷ bs) (sym (eqb-true b 10 e))
     go false e ih = grow_joined b (lines_of bs) ∙ ap (λ (x : List ℕ). b ∷ x) ih
 
@@ -33,20 +34,11 @@ ended_lined ls h = (tt, λ e. let z : ◌≡◌ {A = ℕ} 0 1 = cc in absurd (om
 
 pub lines_lined : (bs : List ℕ) → Lined (lines_of bs)
 lines_lined [] = tt
-lines_lined (b ∷ bs) = go (eqb b 10) refl (lines_lined bs)
+lines_lined (b ∷ bs) = go (b == 10) refl (lines_lined bs)
   where
-    go : (t : Bool) → eqb b 10 ≡ t → Lined (lines_of bs) → Lined (cond t (record { bytes = []; ended = true } ∷ lines_of bs) (lines.grow b (lines_of bs)))
+    go : (t : Bool) → (b == 10) ≡ t → Lined (lines_of bs) → Lined (cond t (record { bytes = []; ended = true } ∷ lines_of bs) (lines.grow b (lines_of bs)))
     go true e ih = ended_lined (lines_of bs) ih
     go false e ih = grow_lined b (lines_of bs) (eqb-false b 10 e) ih
-
-pub line_first : (w rest : List ℕ) → Free 10 w → lines_of (w ++ 10 ∷ rest) ≡ record { bytes = w; ended = true } ∷ lines_of rest
-line_first [] rest h = refl
-line_first (b ∷ w) rest h = cond-false (eqb b 10) _ (lines.grow b (lines_of (w ++ 10 ∷ rest))) (ne_eqb b 10 h.0) ∙ ap (lines.grow b) (line_first w rest h.1)
-
-line_only : (w : List ℕ) → Free 10 w → 0 < length w → lines_of w ≡ record { bytes = w; ended = false } ∷ []
-line_only [] h p = absurd (omega arith)
-line_only (b ∷ []) h p = cond-false (eqb b 10) _ (lines.grow b []) (ne_eqb b 10 h.0)
-line_only (b ∷ d ∷ w) h p = cond-false (eqb b 10) _ (lines.grow b (lines_of (d ∷ w))) (ne_eqb b 10 h.0) ∙ ap (lines.grow b) (line_only (d ∷ w) h.1 (omega arith))
 
 pub lines_alone : (ls : List Line) → Lined ls → lines_of (flat_map line_bytes ls) ≡ ls
 lines_alone [] h = refl
@@ -72,22 +64,6 @@ rejoined [] = []
 rejoined (w ∷ []) = w
 rejoined (w ∷ v ∷ ws) = w ++ 32 ∷ rejoined (v ∷ ws)
 
--- there is at least one piece
-data Some : List (List ℕ) → Type 0 where
-  some : (w : List ℕ) (ws : List (List ℕ)) → Some (w ∷ ws)
-
-grow_some : (b : ℕ) (ps : List (List ℕ)) → Some (grow b ps)
-grow_some b [] = some _ _
-grow_some b (w ∷ ws) = some _ _
-
-split_some : (bs : List ℕ) → Some (split_spaces bs)
-split_some [] = some _ _
-split_some (b ∷ bs) = go (eqb b 32)
-  where
-    go : (t : Bool) → Some (cond t ([] ∷ split_spaces bs) (grow b (split_spaces bs)))
-    go true = some _ _
-    go false = grow_some b (split_spaces bs)
-
 grow_rejoined : (b : ℕ) (ps : List (List ℕ)) → rejoined (grow b ps) ≡ b ∷ rejoined ps
 grow_rejoined b [] = refl
 grow_rejoined b (w ∷ []) = refl
@@ -98,9 +74,9 @@ empty_rejoined _ (some w ws) = refl
 
 split_rejoined : (bs : List ℕ) → rejoined (split_spaces bs) ≡ bs
 split_rejoined [] = refl
-split_rejoined (b ∷ bs) = go (eqb b 32) refl (split_rejoined bs)
+split_rejoined (b ∷ bs) = go (b == 32) refl (split_rejoined bs)
   where
-    go : (t : Bool) → eqb b 32 ≡ t → rejoined (split_spaces bs) ≡ bs → rejoined (cond t ([] ∷ split_spaces bs) (grow b (split_spaces bs))) ≡ b ∷ bs
+    go : (t : Bool) → (b == 32) ≡ t → rejoined (split_spaces bs) ≡ bs → rejoined (cond t ([] ∷ split_spaces bs) (grow b (split_spaces bs))) ≡ b ∷ bs
     go true e ih = empty_rejoined (split_spaces bs) (split_some bs) ∙ ap (λ (x : List ℕ). 32 ∷ x) ih ∙ ap (λ (x : ℕ). x ∷ bs) (sym (eqb-true b 32 e))
     go false e ih = grow_rejoined b (split_spaces bs) ∙ ap (λ (x : List ℕ). b ∷ x) ih
 
@@ -110,19 +86,11 @@ grow_free b (w ∷ ws) ne h = ((ne, h.0), h.1)
 
 split_free : (bs : List ℕ) → AllByRecursion (Free 32) (split_spaces bs)
 split_free [] = (tt, tt)
-split_free (b ∷ bs) = go (eqb b 32) refl (split_free bs)
+split_free (b ∷ bs) = go (b == 32) refl (split_free bs)
   where
-    go : (t : Bool) → eqb b 32 ≡ t → AllByRecursion (Free 32) (split_spaces bs) → AllByRecursion (Free 32) (cond t ([] ∷ split_spaces bs) (grow b (split_spaces bs)))
+    go : (t : Bool) → (b == 32) ≡ t → AllByRecursion (Free 32) (split_spaces bs) → AllByRecursion (Free 32) (cond t ([] ∷ split_spaces bs) (grow b (split_spaces bs)))
     go true e ih = (tt, ih)
     go false e ih = grow_free b (split_spaces bs) (eqb-false b 32 e) ih
-
-split_first : (w rest : List ℕ) → Free 32 w → split_spaces (w ++ 32 ∷ rest) ≡ w ∷ split_spaces rest
-split_first [] rest h = refl
-split_first (b ∷ w) rest h = cond-false (eqb b 32) _ (grow b (split_spaces (w ++ 32 ∷ rest))) (ne_eqb b 32 h.0) ∙ ap (grow b) (split_first w rest h.1)
-
-split_only : (w : List ℕ) → Free 32 w → split_spaces w ≡ w ∷ []
-split_only [] h = refl
-split_only (b ∷ w) h = cond-false (eqb b 32) _ (grow b (split_spaces w)) (ne_eqb b 32 h.0) ∙ ap (grow b) (split_only w h.1)
 
 pub words_alone : (w : Five) → Worded w → five_words (split_spaces (spaced w)) ≡ Ok w
 words_alone w h =

@@ -1,53 +1,21 @@
 -- The first line of a text, and the lines behind it.
-use Rattle.std.proofs.Common.{◌≡◌, ℕ, suc, ◌+◌, ◌-◌, ◌<◌, ◌≤◌, Bool, true, false, cond, eqb, List, [], ◌∷◌, ◌++◌, length, take, drop, Result, sym, refl, ap, ◌∙◌, add-one, arith}
-use native.Mathlib.Nat.{sub-zero}
-use Rattle.std.proofs.lemmas.List.{append_assoc, take_rest, drop_all}
-use Rattle.request.specs.Cuts.{before}
+use Rattle.std.proofs.Common.{◌≡◌, ℕ, suc, ◌+◌, ◌≤◌, ◌<◌, Bool, true, false, cond, ◌==◌, List, [], ◌∷◌, ◌++◌, length, Result, sym, refl, ap, ◌∙◌, arith}
+use Rattle.std.proofs.lemmas.List.{append_assoc}
+use Rattle.std.proofs.lemmas.Bool.{cond-false, ne_eqb}
+use Rattle.request.specs.Meaning.{Free}
 use Rattle.request.specs.Lines.{Line, grow, lines_of, line_outcome, read_lines}
 use Rattle.request.specs.declared.fault.RunFault.{RunFault}
 use Rattle.request.specs.declared.reader.Entry.{Entry}
 use Rattle.request.specs.declared.act.Request.{Request}
 
-first_ended : (bs : List ℕ) → before 10 bs < length bs → lines_of bs ≡ record { bytes = take (before 10 bs) bs; ended = true } ∷ lines_of (drop (suc (before 10 bs)) bs)
-first_ended [] h = absurd (omega arith)
-first_ended (b ∷ bs) h = go (eqb b 10) h (first_ended bs)
-  where
-    go : (t : Bool) → cond t 0 (suc (before 10 bs)) < suc (length bs)
-        → (before 10 bs < length bs → lines_of bs ≡ record { bytes = take (before 10 bs) bs; ended = true } ∷ lines_of (drop (suc (before 10 bs)) bs))
-        → cond t (record { bytes = []; ended = true } ∷ lines_of bs) (grow b (lines_of bs))
-        ≡ record { bytes = take (cond t 0 (suc (before 10 bs))) (b ∷ bs); ended = true } ∷ lines_of (drop (suc (cond t 0 (suc (before 10 bs)))) (b ∷ bs))
-    go true h ih = refl
-    go false h ih = ap (grow b) (ih (omega arith))
+pub line_first : (w rest : List ℕ) → Free 10 w → lines_of (w ++ 10 ∷ rest) ≡ record { bytes = w; ended = true } ∷ lines_of rest
+line_first [] rest h = refl
+line_first (b ∷ w) rest h = cond-false (b == 10) _ (grow b (lines_of (w ++ 10 ∷ rest))) (ne_eqb b 10 h.0) ∙ ap (grow b) (line_first w rest h.1)
 
-first_unended : (bs : List ℕ) → 0 < length bs → length bs ≤ before 10 bs → lines_of bs ≡ record { bytes = bs; ended = false } ∷ []
-first_unended [] p h = absurd (omega arith)
-first_unended (b ∷ []) p h = go (eqb b 10) h
-  where
-    go : (t : Bool) → 1 ≤ cond t 0 (suc 0) → cond {A = List Line} t (record { bytes = []; ended = true } ∷ []) (record { bytes = b ∷ []; ended = false } ∷ []) ≡ record { bytes = b ∷ []; ended = false } ∷ []
-    go true h = absurd (omega arith)
-    go false h = refl
-first_unended (b ∷ d ∷ bs) p h = go (eqb b 10) h (first_unended (d ∷ bs) (omega arith))
-  where
-    go : (t : Bool) → suc (suc (length bs)) ≤ cond t 0 (suc (before 10 (d ∷ bs)))
-        → (suc (length bs) ≤ before 10 (d ∷ bs) → lines_of (d ∷ bs) ≡ record { bytes = d ∷ bs; ended = false } ∷ [])
-        → cond t (record { bytes = []; ended = true } ∷ lines_of (d ∷ bs)) (grow b (lines_of (d ∷ bs))) ≡ record { bytes = b ∷ d ∷ bs; ended = false } ∷ []
-    go true h ih = absurd (omega arith)
-    go false h ih = ap (grow b) (ih (omega arith))
-
--- as the code cuts: n is the length of the first line
-pub no_line : (bs : List ℕ) → length bs ≡ 0 → lines_of bs ≡ []
-no_line [] h = refl
-no_line (b ∷ bs) h = absurd (omega arith)
-
-pub cut_ended : (n : ℕ) (bs : List ℕ) → n ≡ before 10 bs → n < length bs
-    → lines_of bs ≡ record { bytes = take (n - 0) bs; ended = true } ∷ lines_of (take (length bs - (n + 1)) (drop (n + 1) bs))
-cut_ended n bs e l = rw (e, sub-zero, take_rest bs (before 10 bs + 1), add-one) (first_ended bs (omega arith))
-
-pub cut_unended : (n : ℕ) (bs : List ℕ) → n ≡ before 10 bs → length bs ≤ n → 0 < length bs
-    → lines_of bs ≡ record { bytes = bs; ended = false } ∷ lines_of (take (length bs - n) (drop n bs))
-cut_unended n bs e l p =
-    first_unended bs p (omega arith)
-    ∙ ap (λ (x : List ℕ). record { bytes = bs; ended = false } ∷ lines_of x) (sym (take_rest bs n ∙ drop_all n bs l))
+pub line_only : (w : List ℕ) → Free 10 w → 0 < length w → lines_of w ≡ record { bytes = w; ended = false } ∷ []
+line_only [] h p = absurd (omega arith)
+line_only (b ∷ []) h p = cond-false (b == 10) _ (grow b []) (ne_eqb b 10 h.0)
+line_only (b ∷ d ∷ w) h p = cond-false (b == 10) _ (grow b (lines_of (d ∷ w))) (ne_eqb b 10 h.0) ∙ ap (grow b) (line_only (d ∷ w) h.1 (omega arith))
 
 -- a turn of the loop: xs are the entries so far, k is the number of the next line, bs is what is left, and all is what is asked for
 pub turn : (xs ys all : List Entry) (k : ℕ) (bs rest : List ℕ) (l : Line) (r : Result Request RunFault)
@@ -55,3 +23,15 @@ pub turn : (xs ys all : List Entry) (k : ℕ) (bs rest : List ℕ) (l : Line) (r
 turn xs ys all k bs rest l r ec er ey inv =
     ap (λ (zs : List Entry). zs ++ read_lines (k + 1) (lines_of rest)) ey ∙ append_assoc xs (record { line = k; outcome = r } ∷ []) (read_lines (k + 1) (lines_of rest))
     ∙ ap (λ (o : Result Request RunFault). xs ++ record { line = k; outcome = o } ∷ read_lines (k + 1) (lines_of rest)) er ∙ ap (λ (ls : List Line). xs ++ read_lines k ls) (sym ec) ∙ inv
+
+pub lines_most : (bs : List ℕ) → length (lines_of bs) ≤ length bs
+lines_most [] = omega arith
+lines_most (b ∷ bs) = go (b == 10) (lines_most bs)
+  where
+    grown : (ls : List Line) → length (grow b ls) ≤ suc (length ls)
+    grown [] = omega arith
+    grown (l ∷ ls) = omega arith
+
+    go : (t : Bool) → length (lines_of bs) ≤ length bs → length (cond t (record { bytes = []; ended = true } ∷ lines_of bs) (grow b (lines_of bs))) ≤ suc (length bs)
+    go true ih = omega arith
+    go false ih = omega (arith, grown (lines_of bs))

@@ -1,5 +1,5 @@
 -- A line that is refused has the fault that it is refused for.
-use Rattle.std.proofs.Common.{◌≡◌, ℕ, ◌+◌, ◌<◌, Bool, true, false, cond, not, ltb, ◌⊎◌, List, [], ◌∷◌, map, length, Ok, Err, codes, Result, sym, refl, ap, ◌∙◌, subst, inl, inr, ⊎_elim, arith}
+use Rattle.std.proofs.Common.{◌≡◌, ℕ, ◌+◌, ◌<◌, Bool, true, false, cond, not, nat_lt, ◌⊎◌, List, [], ◌∷◌, map, length, Ok, Err, codes, Result, sym, refl, ap, ◌∙◌, subst, inl, inr, ⊎_elim, arith}
 use Rattle.std.specs.Str.{all_ascii_digits, bytes_eq}
 use Rattle.std.proofs.lemmas.Bool.{ltb-false}
 use Rattle.request.specs.Faults.{number_word}
@@ -83,12 +83,12 @@ unfolding read_number
 no_number k [] e p h = absurd (omega arith)
 no_number k (b ∷ d) e p h = go (all_ascii_digits (b ∷ d)) refl h
   where
-    size : (t : Bool) → ltb (value (b ∷ d)) 4294967296 ≡ t → all_ascii_digits (b ∷ d) ≡ true → cond t (Ok (value (b ∷ d))) (Err (TooLarge k)) ≡ Err e → Says k (b ∷ d) e
+    size : (t : Bool) → nat_lt (value (b ∷ d)) 4294967296 ≡ t → all_ascii_digits (b ∷ d) ≡ true → cond t (Ok (value (b ∷ d))) (Err (TooLarge k)) ≡ Err e → Says k (b ∷ d) e
     size true l a h = absurd (given e _ h)
     size false l a h = let q : TooLarge k ≡ e = cc in subst (Says k (b ∷ d)) q (refl, (a, ltb-false _ _ l))
 
     go : (t : Bool) → all_ascii_digits (b ∷ d) ≡ t → cond t (sized k (value (b ∷ d))) (Err (NotDigits k)) ≡ Err e → Says k (b ∷ d) e
-    go true a h = size (ltb (value (b ∷ d)) 4294967296) refl a h
+    go true a h = size (nat_lt (value (b ∷ d)) 4294967296) refl a h
     go false a h = let q : NotDigits k ≡ e = cc in subst (Says k (b ∷ d)) q (refl, a)
 
 abbrev Counting : LineFault → ℕ → List Bool → List (List ℕ) → Type 0

@@ -1,5 +1,5 @@
 -- Words that ask for an act read as that act, and no others do.
-use Rattle.std.proofs.Common.{◌≡◌, ℕ, ◌+◌, ◌<◌, ◌≤◌, Bool, true, false, cond, not, ◌&&◌, eqb, leb, List, [], ◌∷◌, ◌++◌, length, Ok, Err, codes, Result, sym, refl, ap, ◌∙◌, subst, arith}
+use Rattle.std.proofs.Common.{◌≡◌, ℕ, ◌+◌, ◌<◌, ◌≤◌, Bool, true, false, cond, not, ◌&&◌, ◌==◌, nat_le, List, [], ◌∷◌, ◌++◌, length, Ok, Err, codes, Result, sym, refl, ap, ◌∙◌, subst, arith}
 use Rattle.std.specs.List.{flat_map, AllByRecursion}
 use Rattle.std.proofs.ByRecursion.{All-append}
 use Rattle.std.proofs.lemmas.List.{append_assoc}
@@ -17,17 +17,18 @@ use Rattle.request.specs.declared.act.Act.TheVariants.{Add, Drop, Quote, Find}
 use Rattle.request.specs.declared.act.Request.{Request}
 use Rattle.request.specs.declared.act.Verb.{Verb}
 use Rattle.request.specs.declared.act.Verb.TheVariants as verb
-use Rattle.request.proofs.Joining.{line_first, words_alone}
+use Rattle.request.proofs.Joining.{words_alone}
+use Rattle.request.proofs.Lining.{line_first}
 use Rattle.request.proofs.Values.{value_plain, writes_read, digits_free, digits_no_dash}
 
 -- bytes that are written out
 abbrev lacks : ℕ → List ℕ → Bool
 lacks m [] = true
-lacks m (b ∷ bs) = not (eqb b m) && lacks m bs
+lacks m (b ∷ bs) = not (b == m) && lacks m bs
 
 free_from_lacks : (m : ℕ) (bs : List ℕ) → lacks m bs ≡ true → Free m bs
 free_from_lacks m [] h = tt
-free_from_lacks m (b ∷ bs) h = let p = and_parts (not (eqb b m)) (lacks m bs) h in (eqb-false b m (not-true (eqb b m) p.0), free_from_lacks m bs p.1)
+free_from_lacks m (b ∷ bs) h = let p = and_parts (not (b == m)) (lacks m bs) h in (eqb-false b m (not-true (b == m) p.0), free_from_lacks m bs p.1)
 
 -- a word of a request, and what it may be
 data Part : List ℕ → Type 0 where
@@ -129,7 +130,7 @@ acts_read n (a ∷ acts) h =
 pub reads_back : (acts : List Act) → AllByRecursion Small acts → length (written acts) ≤ 65536 → read_text (written acts) ≡ requests 2 acts
 reads_back acts h small =
     ap answered
-    (cond-true (leb (length (written acts)) 65536) (behind_names (lines_of (written acts))) (Err run.TooLong) (le-leb (length (written acts)) 65536 small)
+    (cond-true (nat_le (length (written acts)) 65536) (behind_names (lines_of (written acts))) (Err run.TooLong) (le-leb (length (written acts)) 65536 small)
     ∙ ap behind_names (line_first (codes "op session from to limit") (flat_map lined acts) (free_from_lacks 10 (codes "op session from to limit") refl)))
     ∙ acts_read 2 acts h
 

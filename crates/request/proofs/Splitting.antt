@@ -1,74 +1,42 @@
 -- The first piece of a line and the rest of its pieces.
-use Rattle.std.proofs.Common.{◌≡◌, ℕ, suc, ◌+◌, ◌-◌, ◌<◌, ◌≤◌, Bool, true, false, cond, eqb, List, [], ◌∷◌, length, take, drop, IsErrAnd, Ok, Err, Result, sym, refl, ap, ◌∙◌, add-one, arith, MatchResult}
-use native.Mathlib.Nat.{sub-zero}
-use Rattle.std.proofs.lemmas.List.{take_rest}
-use Rattle.std.proofs.lemmas.Bool.{cond-true, cond-false}
+use Rattle.std.proofs.Common.{◌≡◌, ℕ, suc, ◌<◌, Bool, true, false, cond, ◌==◌, ◌++◌, List, [], ◌∷◌, length, IsErrAnd, Ok, Err, Result, sym, refl, ap, ◌∙◌, arith, MatchResult}
+use Rattle.std.proofs.lemmas.Bool.{cond-true, cond-false, ne_eqb}
 use Rattle.request.specs.declared.fault.LineFault.{LineFault}
 use Rattle.request.specs.declared.fault.LineFault.TheVariants.{Spacing}
 use Rattle.std.proofs.lemmas.Result.{err_from_is_err_and}
-use Rattle.request.specs.Cuts.{before}
+use Rattle.request.specs.Meaning.{Free}
 use Rattle.request.specs.Words.{grow, split_spaces, just_words, in_order, five_words}
 
-pub split_more : (bs : List ℕ) → before 32 bs < length bs → split_spaces bs ≡ take (before 32 bs) bs ∷ split_spaces (drop (suc (before 32 bs)) bs)
-split_more [] h = absurd (omega arith)
-split_more (b ∷ bs) h = go (eqb b 32) h (split_more bs)
+pub split_first : (w rest : List ℕ) → Free 32 w → split_spaces (w ++ 32 ∷ rest) ≡ w ∷ split_spaces rest
+split_first [] rest h = refl
+split_first (b ∷ w) rest h = cond-false (b == 32) _ (grow b (split_spaces (w ++ 32 ∷ rest))) (ne_eqb b 32 h.0) ∙ ap (grow b) (split_first w rest h.1)
+
+pub split_only : (w : List ℕ) → Free 32 w → split_spaces w ≡ w ∷ []
+split_only [] h = refl
+split_only (b ∷ w) h = cond-false (b == 32) _ (grow b (split_spaces w)) (ne_eqb b 32 h.0) ∙ ap (grow b) (split_only w h.1)
+
+-- there is at least one piece
+pub data Some : List (List ℕ) → Type 0 where
+  some : (w : List ℕ) (ws : List (List ℕ)) → Some (w ∷ ws)
+
+grow_some : (b : ℕ) (ps : List (List ℕ)) → Some (grow b ps)
+grow_some b [] = some _ _
+grow_some b (w ∷ ws) = some _ _
+
+pub split_some : (bs : List ℕ) → Some (split_spaces bs)
+split_some [] = some _ _
+split_some (b ∷ bs) = go (b == 32)
   where
-    go : (t : Bool) → cond t 0 (suc (before 32 bs)) < suc (length bs)
-        → (before 32 bs < length bs → split_spaces bs ≡ take (before 32 bs) bs ∷ split_spaces (drop (suc (before 32 bs)) bs))
-        → cond t ([] ∷ split_spaces bs) (grow b (split_spaces bs)) ≡ take (cond t 0 (suc (before 32 bs))) (b ∷ bs) ∷ split_spaces (drop (suc (cond t 0 (suc (before 32 bs)))) (b ∷ bs))
-    go true h ih = refl
-    go false h ih = ap (grow b) (ih (omega arith))
+    go : (t : Bool) → Some (cond t ([] ∷ split_spaces bs) (grow b (split_spaces bs)))
+    go true = some _ _
+    go false = grow_some b (split_spaces bs)
 
-pub split_last : (bs : List ℕ) → length bs ≤ before 32 bs → split_spaces bs ≡ bs ∷ []
-split_last [] h = refl
-split_last (b ∷ bs) h = go (eqb b 32) h (split_last bs)
+-- a line has pieces
+pub more_words : (bs : List ℕ) → just_words 0 (split_spaces bs) ≡ false
+more_words bs = go (split_spaces bs) (split_some bs)
   where
-    go : (t : Bool) → suc (length bs) ≤ cond t 0 (suc (before 32 bs))
-        → (length bs ≤ before 32 bs → split_spaces bs ≡ bs ∷ [])
-        → cond t ([] ∷ split_spaces bs) (grow b (split_spaces bs)) ≡ (b ∷ bs) ∷ []
-    go true h ih = absurd (omega arith)
-    go false h ih = ap (grow b) (ih (omega arith))
-
--- as the code cuts: n is the length of the first piece
-pub split_cut : (n : ℕ) (bs : List ℕ) → n ≡ before 32 bs → n < length bs → split_spaces bs ≡ take (n - 0) bs ∷ split_spaces (take (length bs - (n + 1)) (drop (n + 1) bs))
-split_cut n bs e h = rw (e, sub-zero, take_rest bs (before 32 bs + 1), add-one) (split_more bs (omega arith))
-
--- no pieces are words where the first is empty
-pub empty_first : (n : ℕ) (bs : List ℕ) → before 32 bs ≡ 0 → just_words (suc n) (split_spaces bs) ≡ false
-empty_first n [] h = refl
-empty_first n (b ∷ bs) h = go (eqb b 32) h
-  where
-    go : (t : Bool) → cond t 0 (suc (before 32 bs)) ≡ 0 → just_words (suc n) (cond t ([] ∷ split_spaces bs) (grow b (split_spaces bs))) ≡ false
-    go true h = refl
-    go false h = absurd (omega arith)
-
--- one piece is not two
-pub one_piece : (n : ℕ) (bs : List ℕ) → length bs ≤ before 32 bs → just_words (suc (suc n)) (split_spaces bs) ≡ false
-one_piece n bs h = ap (just_words (suc (suc n))) (split_last bs h) ∙ alone bs
-  where
-    alone : (w : List ℕ) → just_words (suc (suc n)) (w ∷ []) ≡ false
-    alone [] = refl
-    alone (b ∷ w) = refl
-
--- two pieces are not one
-pub two_pieces : (bs : List ℕ) → before 32 bs < length bs → just_words 1 (split_spaces bs) ≡ false
-two_pieces bs h = ap (just_words 1) (split_more bs h) ∙ behind (take (before 32 bs) bs) (drop (suc (before 32 bs)) bs)
-  where
-    some : (ps : List (List ℕ)) (b : ℕ) → just_words 0 (grow b ps) ≡ false
-    some [] b = refl
-    some (p ∷ ps) b = refl
-
-    more : (cs : List ℕ) → just_words 0 (split_spaces cs) ≡ false
-    more [] = refl
-    more (b ∷ cs) = go (eqb b 32)
-      where
-        go : (t : Bool) → just_words 0 (cond t ([] ∷ split_spaces cs) (grow b (split_spaces cs))) ≡ false
-        go true = refl
-        go false = some (split_spaces cs) b
-
-    behind : (w cs : List ℕ) → just_words 1 (w ∷ split_spaces cs) ≡ false
-    behind [] cs = refl
-    behind (b ∷ w) cs = more cs
+    go : (ps : List (List ℕ)) → Some ps → just_words 0 ps ≡ false
+    go _ (some w ws) = refl
 
 -- a word in front leaves one word less to find
 pub step : (n : ℕ) {ps : List (List ℕ)} {w : List ℕ} {qs : List (List ℕ)} → (0 < length w) × (ps ≡ w ∷ qs) → just_words (suc n) ps ≡ just_words n qs

@@ -1,5 +1,5 @@
 -- The number that digits write.
-use Rattle.std.proofs.Common.{◌≡◌, ℕ, ◌+◌, ◌-◌, ◌*◌, ◌^◌, ◌<◌, ◌≤◌, true, false, eqb, ltb, List, [], ◌∷◌, ◌++◌, length, Ok, decimal, refl, ap, ◌∙◌, arith, rules}
+use Rattle.std.proofs.Common.{◌≡◌, ℕ, ◌+◌, ◌-◌, ◌*◌, ◌^◌, ◌<◌, ◌≤◌, true, false, ◌==◌, nat_lt, List, [], ◌∷◌, ◌++◌, length, Ok, decimal, refl, ap, ◌∙◌, arith, rules}
 use Rattle.std.specs.Char.{is_ascii_digit}
 use Rattle.std.specs.Str.{all_ascii_digits}
 use Rattle.std.proofs.lemmas.Str.Parse.{IsNumeralModel, numerals_by_fold, tells_all_ascii_digits}
@@ -13,7 +13,7 @@ pub value_push : (n : ℕ) (ds : List ℕ) (d : ℕ) → value_after n (ds ++ d 
 value_push n [] d = omega arith
 value_push n (e ∷ ds) d = value_push (n * 10 + (e - 48)) ds d
 
-own : IsNumeralModel (λ ds. all_ascii_digits ds ≡ true) (value_after 0)
+pub own : IsNumeralModel (λ ds. all_ascii_digits ds ≡ true) (value_after 0)
 own = numerals_by_fold _ tells_all_ascii_digits value_after (search rules)
 
 pub value_plain : (n : ℕ) → n < 2 ^ 32 → Writes (decimal n) n
@@ -29,7 +29,7 @@ unfolding read_number
 writes_read k [] n w = absurd (omega arith)
 writes_read k (d ∷ ds) n w =
     cond-true (all_ascii_digits (d ∷ ds)) (sized k (value (d ∷ ds))) _ w.1
-    ∙ cond-true (ltb (value (d ∷ ds)) 4294967296) (Ok (value (d ∷ ds))) _ (lt-ltb _ _ (omega arith)) ∙ ap Ok w.2
+    ∙ cond-true (nat_lt (value (d ∷ ds)) 4294967296) (Ok (value (d ∷ ds))) _ (lt-ltb _ _ (omega arith)) ∙ ap Ok w.2
 
 digit_from : (b : ℕ) → is_ascii_digit b ≡ true → 48 ≤ b
 digit_from b h = leb-true 48 b (and_parts _ _ h).0
@@ -45,4 +45,4 @@ pub digits_no_dash : (ds : List ℕ) → 0 < length ds → all_ascii_digits ds �
 digits_no_dash [] h p = absurd (omega arith)
 digits_no_dash (d ∷ ds) h p =
     let lo : 48 ≤ d = digit_from d (and_parts (is_ascii_digit d) (all_ascii_digits ds) p).0 in
-    and_left (eqb d 45) _ (ne_eqb d 45 (λ e. omega arith))
+    and_left (d == 45) _ (ne_eqb d 45 (λ e. omega arith))

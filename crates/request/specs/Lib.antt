@@ -1,4 +1,3 @@
-pub mod Cuts
 pub mod Faults
 pub mod Laws
 pub mod Lines

@@ -8,12 +8,17 @@ use Rattle.request.specs.declared.fault.LineFault.TheVariants.{Unended}
 use Rattle.request.specs.declared.fault.RunFault.{RunFault}
 use Rattle.request.specs.declared.fault.RunFault.TheVariants as run
 use Rattle.request.specs.declared.act.Request.{Request}
+use Rattle.request.specs.declared.lines.Line as code
 use Rattle.request.specs.declared.reader.Entry.{Entry}
 
 -- a line without its byte 10, and whether it has one
 pub record Line : Type 0 where
   pub bytes : List ℕ
   pub ended : Bool
+
+-- the line, where the code has it
+abbrev pub line_of : code.Line → Line
+line_of l = record { bytes = l.bytes.now; ended = l.ended }
 
 abbrev pub grow : ℕ → List Line → List Line
 grow b [] = record { bytes = b ∷ []; ended = false } ∷ []

@@ -1,9 +1,9 @@
 //! A request, read from its line.
-ghost use Rattle.request.specs.Lines.{read_line};
+ghost use Rattle.request.specs.Lines.{line_of, read_line};
 ghost use Rattle.request.specs.Requests.{act_of, dash_at, dashes, no_limit, no_sites, verb_of};
+ghost use Rattle.request.specs.Words.{five_of};
 ghost use Rattle.std.specs.Prelude.{◌≡◌};
 
-use crate::bytes::is_word;
 use crate::fault::LineFault;
 use crate::lines::Line;
 use crate::number::read_number;
@@ -64,16 +64,12 @@ impl Verb {
 fn read_verb(word: &[u8]) -> Result<Verb, LineFault>
     ensures { result ≡ verb_of word.now }
 {
-    if is_word(word, b"add") {
-        Ok(Verb::Add)
-    } else if is_word(word, b"drop") {
-        Ok(Verb::Drop)
-    } else if is_word(word, b"quote") {
-        Ok(Verb::Quote)
-    } else if is_word(word, b"find") {
-        Ok(Verb::Find)
-    } else {
-        Err(LineFault::UnknownAct)
+    match word {
+        b"add" => Ok(Verb::Add),
+        b"drop" => Ok(Verb::Drop),
+        b"quote" => Ok(Verb::Quote),
+        b"find" => Ok(Verb::Find),
+        _ => Err(LineFault::UnknownAct),
     }
 }
 
@@ -81,7 +77,7 @@ fn read_verb(word: &[u8]) -> Result<Verb, LineFault>
 fn check_dash(word: u32, bytes: &[u8], dash: bool) -> Result<(), LineFault>
     ensures { result ≡ dash_at word bytes.now dash }
 {
-    if is_word(bytes, b"-") == dash {
+    if matches!(bytes, b"-") == dash {
         Ok(())
     } else {
         Err(LineFault::Dash { word })
@@ -89,7 +85,7 @@ fn check_dash(word: u32, bytes: &[u8], dash: bool) -> Result<(), LineFault>
 }
 
 fn check_dashes(verb: Verb, words: Words) -> Result<(), LineFault>
-    ensures { result ≡ dashes verb (record { act = words.entry.act.now; session = words.entry.session.now; from = words.entry.from.now; to = words.entry.to.now; limit = words.entry.limit.now }) }
+    ensures { result ≡ dashes verb (five_of words.entry) }
 {
     check_dash(2, words.session, false)?;
     check_dash(3, words.from, verb.no_sites())?;
@@ -98,7 +94,7 @@ fn check_dashes(verb: Verb, words: Words) -> Result<(), LineFault>
 }
 
 fn read_act(verb: Verb, words: Words) -> Result<Act, LineFault>
-    ensures { result ≡ act_of verb (record { act = words.entry.act.now; session = words.entry.session.now; from = words.entry.from.now; to = words.entry.to.now; limit = words.entry.limit.now }) }
+    ensures { result ≡ act_of verb (five_of words.entry) }
 {
     let session = read_number(2, words.session)?;
     match verb {
@@ -125,7 +121,7 @@ fn read_act(verb: Verb, words: Words) -> Result<Act, LineFault>
 
 /// The request of a line.
 pub(crate) fn read_line(number: u32, line: Line) -> Result<Request, LineFault>
-    ensures { result ≡ read_line number (record { bytes = line.entry.bytes.now; ended = line.entry.ended }) }
+    ensures { result ≡ read_line number (line_of line.entry) }
 {
     if !line.ended {
         return Err(LineFault::Unended);

@@ -1,24 +1,11 @@
-//! Searches and comparisons in bytes.
-ghost use Rattle.std.specs.Prelude.{◌≡◌, ◌≤◌, length};
-ghost use Rattle.std.specs.Str.{bytes_eq};
-ghost use Rattle.request.specs.Cuts.{before};
+//! Searches in bytes.
+ghost use Rattle.std.specs.Prelude.{◌≡◌, ◌∷◌, ◌++◌, MatchOption};
+ghost use Rattle.request.specs.Meaning.{Free};
 
-/// How many bytes stand before the first byte `mark`.
-pub(crate) fn count_before(mark: u8, bytes: &[u8]) -> usize
-    ensures value { result ≡ before mark bytes.now }
-    ensures bound { result ≤ length bytes.now }
+/// What stands before the first byte `mark`, and what stands behind it.
+pub(crate) fn split_once(bytes: &[u8], mark: u8) -> Option<(&[u8], &[u8])>
+    ensures { MatchOption result (Free mark bytes.now) (λ p. Free mark p.0.now × (bytes.now ≡ p.0.now ++ mark ∷ p.1.now)) }
 {
-    for (i, b) in bytes.iter().enumerate() {
-        if *b == mark {
-            return i;
-        }
-    }
-    bytes.len()
-}
-
-/// Whether two words are the same.
-pub(crate) fn is_word(bytes: &[u8], word: &[u8]) -> bool
-    ensures { result ≡ bytes_eq bytes.now word.now }
-{
-    bytes == word
+    let n = bytes.iter().position(|b| *b == mark)?;
+    Some((&bytes[..n], &bytes[n + 1..]))
 }

@@ -67,8 +67,7 @@ impl NumberFault {
         ensures { result ≡ number_word self }
     {
         match self {
-            NumberFault::NotDigits { word } => word,
-            NumberFault::TooLarge { word } => word,
+            NumberFault::NotDigits { word } | NumberFault::TooLarge { word } => word,
         }
     }
 }

@@ -17,12 +17,11 @@ impl fmt::Display for Layer {
     ghost output = { λ x. Some (layer_bytes x) };
 
     fn fmt<W: fmt::Write>(&self, f: &mut fmt::Formatter<W>) -> fmt::Result {
-        let name = match self {
+        f.write_str(match self {
             Layer::Text => "text",
             Layer::Line => "line",
             Layer::Number => "number",
             Layer::Session => "session",
-        };
-        write!(f, "{name}")
+        })
     }
 }

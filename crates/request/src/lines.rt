@@ -1,8 +1,8 @@
 //! The lines of a text.
-ghost use Rattle.std.specs.Prelude.{◌≡◌, ◌<◌, [], ◌∷◌, length, MatchOption};
-ghost use Rattle.request.specs.Lines.{lines_of};
+ghost use Rattle.std.specs.Iterator.{YieldsFirstBy, item_count};
+ghost use Rattle.request.specs.Lines.{line_of, lines_of};
 
-use crate::bytes::count_before;
+use crate::bytes::split_once;
 
 /// A line without its byte 10, and whether it has one.
 #[derive(Clone, Copy)]
@@ -11,25 +11,34 @@ pub(crate) struct Line<'a> {
     pub(crate) ended: bool,
 }
 
-/// The first line of a text, and what follows it; an empty text has none.
-pub(crate) fn next_line(text: &[u8]) -> Option<(Line<'_>, &[u8])>
-    ensures { MatchOption result (lines_of text.now ≡ []) (λ p. (lines_of text.now ≡ record { bytes = p.0.bytes.now; ended = p.0.ended } ∷ lines_of p.1.now) × (length p.1.now < length text.now)) }
-{
-    if text.is_empty() {
-        return None;
-    }
-    let n = count_before(b'\n', text);
-    if n < text.len() {
-        let line = Line {
-            bytes: &text[0..n],
-            ended: true,
-        };
-        Some((line, &text[n + 1..]))
-    } else {
-        let line = Line {
-            bytes: text,
-            ended: false,
-        };
-        Some((line, &text[n..]))
+/// The lines of a text, in turn.
+#[derive(Clone, Copy)]
+pub(crate) struct Lines<'a> {
+    pub(crate) rest: &'a [u8],
+}
+
+impl<'a> Iterator for Lines<'a> {
+    type Item = Line<'a>;
+
+    ghost next_gives = { YieldsFirstBy line_of (λ s. lines_of s.rest.now) };
+
+    ghost remaining = { item_count (λ s. lines_of s.rest.now) };
+
+    fn next(&mut self) -> Option<Line<'a>> {
+        match split_once(self.rest, b'\n') {
+            Some((bytes, rest)) => {
+                self.rest = rest;
+                Some(Line { bytes, ended: true })
+            }
+            None if self.rest.is_empty() => None,
+            None => {
+                let bytes = self.rest;
+                self.rest = &[];
+                Some(Line {
+                    bytes,
+                    ended: false,
+                })
+            }
+        }
     }
 }

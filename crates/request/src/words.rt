@@ -1,9 +1,9 @@
 //! The words of a line.
-ghost use Rattle.std.specs.Prelude.{◌≡◌, ℕ, suc, ◌<◌, false, [], ◌∷◌, length, Ok, Err, MatchResult};
-ghost use Rattle.request.specs.Words.{five_words, just_words, split_spaces};
+ghost use Rattle.std.specs.Prelude.{◌≡◌, ℕ, suc, ◌<◌, false, ◌∷◌, length, Ok, Err, MatchResult};
+ghost use Rattle.request.specs.Words.{five_of, five_words, just_words, pieces_left, split_spaces};
 ghost use Rattle.request.specs.declared.fault.LineFault.TheVariants.{Spacing};
 
-use crate::bytes::count_before;
+use crate::bytes::split_once;
 use crate::fault::LineFault;
 
 /// The five words of a line.
@@ -16,42 +16,38 @@ pub(crate) struct Words<'a> {
     pub(crate) limit: &'a [u8],
 }
 
-/// The first word, and what follows the space behind it.
-fn first_word(bytes: &[u8]) -> Result<(&[u8], &[u8]), LineFault>
-    ensures { MatchResult result (λ p. (0 < length p.0.now) × (split_spaces bytes.now ≡ p.0.now ∷ split_spaces p.1.now)) (λ f. (f ≡ Spacing) × ((n : ℕ) → just_words (suc (suc n)) (split_spaces bytes.now) ≡ false)) }
+/// The first word of what is left of a line, and what is left behind its space; `None` where the line is at its end.
+fn next_word(left: Option<&[u8]>) -> Result<(&[u8], Option<&[u8]>), LineFault>
+    ensures { MatchResult result (λ p. (0 < length p.0.now) × (pieces_left left.entry ≡ p.0.now ∷ pieces_left p.1)) (λ f. (f ≡ Spacing) × ((n : ℕ) → just_words (suc n) (pieces_left left.entry) ≡ false)) }
 {
-    let n = count_before(b' ', bytes);
-    if n == 0 || n >= bytes.len() {
+    let bytes = left.ok_or(LineFault::Spacing)?;
+    let (word, left) = match split_once(bytes, b' ') {
+        Some((word, rest)) => (word, Some(rest)),
+        None => (bytes, None),
+    };
+    if word.is_empty() {
         return Err(LineFault::Spacing);
     }
-    Ok((&bytes[0..n], &bytes[n + 1..]))
-}
-
-/// The last word, with no space behind it.
-fn last_word(bytes: &[u8]) -> Result<&[u8], LineFault>
-    ensures { MatchResult result (λ p. (0 < length p.now) × (split_spaces bytes.now ≡ p.now ∷ [])) (λ f. (f ≡ Spacing) × (just_words 1 (split_spaces bytes.now) ≡ false)) }
-{
-    let n = count_before(b' ', bytes);
-    if n == 0 || n < bytes.len() {
-        return Err(LineFault::Spacing);
-    }
-    Ok(bytes)
+    Ok((word, left))
 }
 
 /// The five words of a line, with one space between.
 pub(crate) fn split_words(line: &[u8]) -> Result<Words<'_>, LineFault>
-    ensures { MatchResult result (λ w. five_words (split_spaces line.now) ≡ Ok (record { act = w.act.now; session = w.session.now; from = w.from.now; to = w.to.now; limit = w.limit.now })) (λ f. five_words (split_spaces line.now) ≡ Err f) }
+    ensures { MatchResult result (λ w. five_words (split_spaces line.now) ≡ Ok (five_of w)) (λ f. five_words (split_spaces line.now) ≡ Err f) }
 {
-    let (act, rest) = first_word(line)?;
-    let (session, rest) = first_word(rest)?;
-    let (from, rest) = first_word(rest)?;
-    let (to, rest) = first_word(rest)?;
-    let limit = last_word(rest)?;
-    Ok(Words {
-        act,
-        session,
-        from,
-        to,
-        limit,
-    })
+    let (act, left) = next_word(Some(line))?;
+    let (session, left) = next_word(left)?;
+    let (from, left) = next_word(left)?;
+    let (to, left) = next_word(left)?;
+    let (limit, left) = next_word(left)?;
+    match left {
+        None => Ok(Words {
+            act,
+            session,
+            from,
+            to,
+            limit,
+        }),
+        Some(_) => Err(LineFault::Spacing),
+    }
 }

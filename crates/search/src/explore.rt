@@ -1,17 +1,22 @@
 //! Every list of calls up to a length, by the tables that they reach, on every small star and some splitters.
-use crate::play::{Calls, LENGTH, Outcome, Step, play};
-use crate::shape::Shape;
+use crate::play::{Bench, Outcome, Step, play};
+use crate::shape::{Form, Shape};
+use crate::table::{Ends, Table};
 use controller::controller::Controller;
+use network::layout::Layout;
 use network::splitter::Splitter;
 use network::star::Star;
 use plant::fabric::RegisterFabric;
 use plant::hub::MirrorHub;
 use std::alloc::{AllocError, Global};
 use std::collections::BTreeSet;
-use std::fmt;
+use std::{fmt, mem};
+
+/// The longest list of calls.
+const LENGTH: u32 = 5;
 
 /// What was covered, and how often something disagreed.
-#[derive(Clone, Copy)]
+#[derive(Clone, Copy, Default)]
 pub(crate) struct Tally {
     stars: u64,
     splitters: u64,
@@ -31,16 +36,15 @@ impl fmt::Display for Tally {
             tables,
             disagreements,
         } = *self;
-        let length = LENGTH as u64;
         write!(
             f,
-            "lists of up to {length} calls\nstars {stars}\nsplitters {splitters}\nstates {states}\ncalls {calls}\ntables searched {tables}\ndisagreements {disagreements}"
+            "lists of up to {LENGTH} calls\nstars {stars}\nsplitters {splitters}\nstates {states}\ncalls {calls}\ntables searched {tables}\ndisagreements {disagreements}"
         )
     }
 }
 
 impl Tally {
-    fn note(&mut self, outcome: Outcome) {
+    fn note(&mut self, outcome: &Outcome) {
         self.calls = self.calls.saturating_add(1);
         if outcome.searched {
             self.tables = self.tables.saturating_add(1);
@@ -51,190 +55,175 @@ impl Tally {
     }
 }
 
-fn on_star(shape: &Shape, calls: &Calls) -> (Outcome, Outcome) {
-    let sites = shape.sites.min(4);
-    let ports = &shape.ports[0..sites as usize];
-    let layout = Star::new(ports);
-    let mut registers = [0u8; 16];
-    let on_hub = play(
-        &layout,
-        Controller::new(Star::new(ports), MirrorHub::new(shape.waves, sites)),
-        RegisterFabric::new(&mut registers, shape.waves, sites),
-        shape,
-        calls,
-    );
-    let mut registers = [0u8; 16];
-    let fabric = RegisterFabric::new(&mut registers, shape.waves, sites);
-    let on_fabric = play(
-        &layout,
-        Controller::new(Star::new(ports), fabric),
-        MirrorHub::new(shape.waves, sites),
-        shape,
-        calls,
-    );
-    (on_hub, on_fabric)
-}
-
-fn on_splitter(shape: &Shape, calls: &Calls) -> (Outcome, Outcome) {
-    let sites = shape.sites.min(4) as usize;
-    let ports = &shape.ports[0..sites];
-    let entries = &shape.entries[0..sites];
-    let layout = Splitter::new(ports, entries, shape.branches);
-    let mut registers = [0u8; 16];
-    let on_hub = play(
-        &layout,
-        Controller::new(
-            Splitter::new(ports, entries, shape.branches),
-            MirrorHub::new(shape.waves, shape.branches),
-        ),
-        RegisterFabric::new(&mut registers, shape.waves, shape.branches),
-        shape,
-        calls,
-    );
-    let mut registers = [0u8; 16];
-    let fabric = RegisterFabric::new(&mut registers, shape.waves, shape.branches);
-    let on_fabric = play(
-        &layout,
-        Controller::new(Splitter::new(ports, entries, shape.branches), fabric),
-        MirrorHub::new(shape.waves, shape.branches),
-        shape,
-        calls,
-    );
-    (on_hub, on_fabric)
-}
-
-/// The tables that were reached, and the lists that reached the newest of them.
-#[derive(Drop)]
-struct Reached {
-    seen: BTreeSet<u64>,
-    newest: Vec<Calls>,
-}
-
-// One list of calls, on both makes; a table that is new is kept with it.
-fn try_list(
+// A list of calls on a hub with its copy on a fabric, and the other way round.
+fn on_both_makes<L: Layout + Drop, M: Fn() -> L>(
+    alloc: Global,
+    make: M,
+    groups: u8,
     shape: &Shape,
-    calls: Calls,
-    reached: &mut Reached,
-    tally: &mut Tally,
-) -> Result<(), AllocError> {
-    let (on_hub, on_fabric) = if shape.branches == 0 {
-        on_star(shape, &calls)
-    } else {
-        on_splitter(shape, &calls)
+    earlier: &[Step],
+    last: Step,
+) -> Result<(Outcome, Outcome), AllocError>
+    requires { M.IsAlwaysCallable make }
+{
+    let layout = make();
+    let mut registers = [0; 16];
+    let bench = Bench {
+        controller: Controller::new(make(), MirrorHub::new(shape.waves, groups)),
+        copy: RegisterFabric::new(&mut registers, shape.waves, groups),
     };
-    tally.note(on_hub);
-    tally.note(on_fabric);
-    if on_hub.key != on_fabric.key {
-        tally.disagreements = tally.disagreements.saturating_add(1);
-    }
-    if reached.seen.insert(on_hub.key)? {
-        tally.states = tally.states.saturating_add(1);
-        reached.newest.push(calls)?;
-    }
-    Ok(())
+    let on_hub = play(alloc, &layout, bench, shape, earlier, last)?;
+    let mut registers = [0; 16];
+    let fabric = RegisterFabric::new(&mut registers, shape.waves, groups);
+    let bench = Bench {
+        controller: Controller::new(make(), fabric),
+        copy: MirrorHub::new(shape.waves, groups),
+    };
+    let on_fabric = play(alloc, &layout, bench, shape, earlier, last)?;
+    Ok((on_hub, on_fabric))
 }
 
-// Every call behind a list: each pair of sites, also one with itself, and each number that an admission can have had.
-fn try_all(
+fn outcomes(
+    alloc: Global,
     shape: &Shape,
-    calls: Calls,
-    reached: &mut Reached,
-    tally: &mut Tally,
-) -> Result<(), AllocError> {
-    for source in 0..shape.sites {
-        for destination in 0..shape.sites {
-            let step = Step::Add {
-                source,
-                destination,
-            };
-            try_list(shape, calls.with(step), reached, tally)?;
+    earlier: &[Step],
+    last: Step,
+) -> Result<(Outcome, Outcome), AllocError> {
+    match shape.form {
+        Form::Star => {
+            let make = || Star::new(shape.ports);
+            on_both_makes(alloc, make, shape.sites(), shape, earlier, last)
+        }
+        Form::Splitter { entries, branches } => {
+            let make = || Splitter::new(shape.ports, entries, branches);
+            on_both_makes(alloc, make, branches, shape, earlier, last)
         }
     }
-    for number in 1..=calls.len() {
-        try_list(shape, calls.with(Step::Drop { number }), reached, tally)?;
-    }
-    Ok(())
-}
-
-fn explore(heap: Global, shape: &Shape, tally: &mut Tally) -> Result<(), AllocError> {
-    let mut reached = Reached {
-        seen: BTreeSet::new(heap),
-        newest: Vec::new(heap),
-    };
-    reached.seen.insert(0)?;
-    reached.newest.push(Calls::none())?;
-    tally.states = tally.states.saturating_add(1);
-    for _ in 0..LENGTH {
-        let level = std::mem::replace(&mut reached.newest, Vec::new(heap));
-        for calls in level.as_slice() {
-            try_all(shape, *calls, &mut reached, tally)?;
-        }
-    }
-    Ok(())
 }
 
 // One or two ports for each site, by the bits of `two`.
 fn ports_by(two: u8) -> [u8; 4] {
-    [
-        1 + two % 2,
-        1 + two / 2 % 2,
-        1 + two / 4 % 2,
-        1 + two / 8 % 2,
-    ]
+    [1, 2, 4, 8].map(|bit| if two & bit == 0 { 1 } else { 2 })
 }
 
-fn explore_stars(heap: Global, tally: &mut Tally) -> Result<(), AllocError> {
-    for (sites, lists) in [(2u8, 4u8), (3, 8), (4, 16)] {
-        for two in 0..lists {
-            for waves in 1..4u8 {
-                let shape = Shape {
-                    ports: ports_by(two),
-                    sites,
-                    entries: [0; 4],
-                    branches: 0,
-                    waves,
+/// The search so far: what was covered, and of one shape the tables that were reached, and the lists that reached the
+/// newest of them.
+#[derive(Drop)]
+struct Search {
+    alloc: Global,
+    tally: Tally,
+    seen: BTreeSet<Table>,
+    newest: Vec<Vec<Step>>,
+}
+
+impl Search {
+    fn new(alloc: Global) -> Search {
+        Search {
+            alloc,
+            tally: Tally::default(),
+            seen: BTreeSet::new(alloc),
+            newest: Vec::new(alloc),
+        }
+    }
+
+    // A table that is new is kept with the list that reached it.
+    fn keep(&mut self, table: Table, earlier: &[Step], last: Step) -> Result<(), AllocError> {
+        if self.seen.insert(table)? {
+            let mut calls = Vec::from_slice(self.alloc, earlier)?;
+            calls.push(last)?;
+            self.newest.push(calls)?;
+        }
+        Ok(())
+    }
+
+    // One list of calls, on both makes.
+    fn try_list(&mut self, shape: &Shape, earlier: &[Step], last: Step) -> Result<(), AllocError> {
+        let (on_hub, on_fabric) = outcomes(self.alloc, shape, earlier, last)?;
+        self.tally.note(&on_hub);
+        self.tally.note(&on_fabric);
+        if on_hub.table != on_fabric.table {
+            self.tally.disagreements = self.tally.disagreements.saturating_add(1);
+        }
+        self.keep(on_hub.table, earlier, last)
+    }
+
+    // Every call behind a list: each pair of sites, also one with itself, and each number that an admission can have had.
+    fn try_all(&mut self, shape: &Shape, earlier: &[Step], number: u32) -> Result<(), AllocError> {
+        for source in 0..shape.sites() {
+            for destination in 0..shape.sites() {
+                let ends = Ends {
+                    source,
+                    destination,
                 };
-                explore(heap, &shape, tally)?;
-                tally.stars = tally.stars.saturating_add(1);
+                self.try_list(shape, earlier, Step::Add { number, ends })?;
             }
         }
-    }
-    Ok(())
-}
-
-fn explore_splitters(heap: Global, tally: &mut Tally) -> Result<(), AllocError> {
-    for (entries, branches) in [
-        ([0u8, 0, 1, 1], 2u8),
-        ([0, 0, 0, 1], 2),
-        ([0, 1, 2, 0], 3),
-        ([0, 0, 0, 0], 1),
-    ] {
-        for waves in 1..4u8 {
-            let shape = Shape {
-                ports: [1, 2, 1, 2],
-                sites: 4,
-                entries,
-                branches,
-                waves,
-            };
-            explore(heap, &shape, tally)?;
-            tally.splitters = tally.splitters.saturating_add(1);
+        for number in 1..number {
+            self.try_list(shape, earlier, Step::Drop { number })?;
         }
+        Ok(())
     }
-    Ok(())
+
+    fn explore(&mut self, shape: &Shape) -> Result<(), AllocError> {
+        self.seen = BTreeSet::new(self.alloc);
+        self.seen.insert(Vec::new(self.alloc))?;
+        self.newest = Vec::new(self.alloc);
+        self.newest.push(Vec::new(self.alloc))?;
+        // a session is numbered by the place of its admission in the list
+        for number in 1..=LENGTH {
+            let level = mem::replace(&mut self.newest, Vec::new(self.alloc));
+            for calls in level.as_slice() {
+                self.try_all(shape, calls.as_slice(), number)?;
+            }
+        }
+        let states = self.seen.len() as u64;
+        self.tally.states = self.tally.states.saturating_add(states);
+        Ok(())
+    }
+
+    fn explore_stars(&mut self) -> Result<(), AllocError> {
+        for sites in 2..5 {
+            for two in 0..1 << sites {
+                for waves in 1..4 {
+                    self.explore(&Shape {
+                        ports: &ports_by(two)[..sites],
+                        form: Form::Star,
+                        waves,
+                    })?;
+                    self.tally.stars = self.tally.stars.saturating_add(1);
+                }
+            }
+        }
+        Ok(())
+    }
+
+    fn explore_splitters(&mut self) -> Result<(), AllocError> {
+        for (entries, branches) in [
+            ([0, 0, 1, 1], 2),
+            ([0, 0, 0, 1], 2),
+            ([0, 1, 2, 0], 3),
+            ([0, 0, 0, 0], 1),
+        ] {
+            for waves in 1..4 {
+                self.explore(&Shape {
+                    ports: &[1, 2, 1, 2],
+                    form: Form::Splitter {
+                        entries: &entries,
+                        branches,
+                    },
+                    waves,
+                })?;
+                self.tally.splitters = self.tally.splitters.saturating_add(1);
+            }
+        }
+        Ok(())
+    }
 }
 
 /// Every star of 2 to 4 sites of 1 or 2 ports, and some splitters, with 1 to 3 wavelengths.
-pub(crate) fn explore_all(heap: Global) -> Result<Tally, AllocError> {
-    let mut tally = Tally {
-        stars: 0,
-        splitters: 0,
-        states: 0,
-        calls: 0,
-        tables: 0,
-        disagreements: 0,
-    };
-    explore_stars(heap, &mut tally)?;
-    explore_splitters(heap, &mut tally)?;
-    Ok(tally)
+pub(crate) fn explore_all(alloc: Global) -> Result<Tally, AllocError> {
+    let mut search = Search::new(alloc);
+    search.explore_stars()?;
+    search.explore_splitters()?;
+    Ok(search.tally)
 }

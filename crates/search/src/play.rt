@@ -1,407 +1,271 @@
 //! One list of calls on a new controller, with its last call looked at from outside.
 use crate::shape::Shape;
-use crate::table::{Ends, meet, table_exists};
+use crate::table::{Ends, Table, meet, table_exists};
 use book::refusal::CallRefusal;
 use controller::controller::Controller;
 use controller::orders::carry_out;
 use network::layout::Layout;
 use plant::Plant;
-use reckoning::order::{Kind, Order};
+use plant::refusal::PlantRefusal;
+use reckoning::demand::Demand;
+use reckoning::order::Order;
 use reckoning::session::Session;
 use sheet::sheet::Sheet;
+use std::alloc::{AllocError, Global};
 
-/// A call of a list. A session is numbered by the place of its admission in the list, from 1.
+/// A call of a list.
 #[derive(Clone, Copy)]
 pub(crate) enum Step {
-    Add { source: u8, destination: u8 },
+    Add { number: u32, ends: Ends },
     Drop { number: u32 },
 }
 
-/// What the last call of a list came to.
+/// What an accepted call did.
 #[derive(Clone, Copy)]
+enum Done {
+    Added { moves: u8 },
+    Dropped,
+}
+
+impl Done {
+    fn moves(self) -> u8 {
+        match self {
+            Done::Added { moves } => moves,
+            Done::Dropped => 0,
+        }
+    }
+}
+
+/// What ports, and a search for a table, ask of an answer.
+#[derive(Clone, Copy)]
+enum Due {
+    Accepted,
+    Refused(CallRefusal),
+    /// A table was found.
+    Table,
+    /// A table was searched for, and there is none.
+    NoTable,
+}
+
+impl Due {
+    fn was_searched(self) -> bool {
+        matches!(self, Due::Table | Due::NoTable)
+    }
+
+    fn is_met_by(self, answer: Result<Done, CallRefusal>) -> bool {
+        match self {
+            Due::Accepted | Due::Table => answer.is_ok(),
+            Due::Refused(refusal) => answer.err() == Some(refusal),
+            Due::NoTable => matches!(
+                answer,
+                Err(CallRefusal::SourceFull | CallRefusal::DestinationFull)
+            ),
+        }
+    }
+}
+
+/// A call that was served.
+#[derive(Clone, Copy)]
+struct Served {
+    answer: Result<Done, CallRefusal>,
+    /// How many orders were written, where the copy accepted each.
+    orders: Result<usize, PlantRefusal>,
+}
+
+impl Served {
+    // As many moves as it says, fewer than groups, and 2 × moves + 1 orders; a refusal writes none.
+    fn is_rightly_counted(self, groups: u8, moved: usize) -> bool {
+        match self.answer {
+            Ok(done) => {
+                let moves = usize::from(done.moves());
+                moves == moved && done.moves() < groups && self.orders == Ok(2 * moves + 1)
+            }
+            Err(_) => moved == 0 && self.orders == Ok(0),
+        }
+    }
+}
+
+/// What the last call of a list came to.
+#[derive(Drop)]
 pub(crate) struct Outcome {
-    /// The table after it, as a number.
-    pub(crate) key: u64,
+    /// The table after it.
+    pub(crate) table: Table,
     /// A table was searched for.
     pub(crate) searched: bool,
     pub(crate) agrees: bool,
 }
 
-/// Whether an answer is right, and whether a table was searched for to tell it.
-#[derive(Clone, Copy)]
-struct Verdict {
-    right: bool,
-    searched: bool,
+/// A controller, and a plant of the other make, to which each of its orders is put by itself.
+#[derive(Drop)]
+pub(crate) struct Bench<L: Layout + Drop, P: Plant + Drop, Q: Plant + Drop> {
+    pub(crate) controller: Controller<L, P>,
+    pub(crate) copy: Q,
 }
 
-fn told(right: bool) -> Verdict {
-    Verdict {
-        right,
-        searched: false,
-    }
-}
-
-type Answer = Result<u8, CallRefusal>;
-
-const NO_ORDER: Order = Order {
-    kind: Kind::Darken,
-    wavelength: 0,
-    source: 0,
-    destination: 0,
-    session: 0,
-};
-
-const NOBODY: Session = Session {
-    number: 0,
-    source: 0,
-    destination: 0,
-    wavelength: 0,
-};
-
-const NOWHERE: Ends = Ends {
-    source: 0,
-    destination: 0,
-};
-
-// Answers the moves of an admission, and 0 of a release.
-fn take<L: Layout + Drop, P: Plant + Drop>(
-    controller: &mut Controller<L, P>,
-    limit: u8,
-    step: Step,
-    number: u32,
-    orders: &mut Sheet<Order>,
-    walk: &mut [u16],
-) -> Answer {
-    orders.clear();
-    match step {
-        Step::Add {
-            source,
-            destination,
-        } => {
-            let (_, moves) = controller.admit(
-                number,
-                source as u32,
-                destination as u32,
-                limit as u32,
-                orders,
-                walk,
-            )?;
-            Ok(moves)
-        }
-        Step::Drop { number } => {
-            let _ = controller.release(number, orders)?;
-            Ok(0)
-        }
-    }
-}
-
-// Each order by itself, on a plant of the other make; is each accepted?
-fn all_accepted<Q: Plant>(orders: &Sheet<Order>, copy: &mut Q) -> bool {
-    let mut accepted = true;
-    for i in 0..orders.len() {
-        match orders.read(i) {
-            Ok(order) => accepted = carry_out(order, copy).is_ok() & accepted,
-            Err(_) => accepted = false,
-        }
-    }
-    accepted
-}
-
-fn ends_of(s: Session) -> Ends {
-    Ends {
-        source: s.source,
-        destination: s.destination,
-    }
-}
-
-// How many rows leave the site, and how many reach it.
-fn in_use(rows: &Sheet<Session>, site: u8) -> (u8, u8) {
-    let mut sent: u8 = 0;
-    let mut received: u8 = 0;
-    for i in 0..rows.len() {
-        if let Ok(s) = rows.read(i) {
-            if s.source == site {
-                sent = sent.saturating_add(1);
+impl<L: Layout + Drop, P: Plant + Drop, Q: Plant + Drop> Bench<L, P, Q> {
+    fn answer(&mut self, step: Step, orders: &mut Sheet<Order>) -> Result<Done, CallRefusal> {
+        match step {
+            Step::Add { number, ends } => {
+                let mut walk = [0; 8];
+                let limit = self.copy.groups().saturating_sub(1);
+                let demand = Demand {
+                    number,
+                    source: u32::from(ends.source),
+                    destination: u32::from(ends.destination),
+                };
+                let (_, moves) = self
+                    .controller
+                    .admit(demand, u32::from(limit), orders, &mut walk)?;
+                Ok(Done::Added { moves })
             }
-            if s.destination == site {
-                received = received.saturating_add(1);
+            Step::Drop { number } => {
+                self.controller.release(number, orders)?;
+                Ok(Done::Dropped)
             }
         }
     }
-    (sent, received)
-}
 
-// Does a table exist for the rows with one session more?
-fn serves_with<L: Layout>(layout: &L, rows: &Sheet<Session>, new: Ends, waves: u8) -> bool {
-    let mut sessions = [NOWHERE; 16];
-    sessions[0] = new;
-    let mut count: usize = 1;
-    for i in 0..rows.len() {
-        if count < 16 {
-            if let Ok(s) = rows.read(i) {
-                sessions[count] = ends_of(s);
-                count += 1;
-            }
+    fn put_each(&mut self, orders: &[Order]) -> Result<usize, PlantRefusal> {
+        for order in orders {
+            carry_out(*order, &mut self.copy)?;
+        }
+        Ok(orders.len())
+    }
+
+    fn serve(&mut self, step: Step) -> Served {
+        let mut places = [Order::default(); 8];
+        let mut sheet = Sheet::new(&mut places);
+        Served {
+            answer: self.answer(step, &mut sheet),
+            orders: self.put_each(sheet.as_slice()),
         }
     }
-    table_exists(layout, &sessions, count, waves)
-}
 
-fn is_standing(rows: &Sheet<Session>, number: u32) -> bool {
-    for i in 0..rows.len() {
-        if let Ok(s) = rows.read(i) {
-            if s.number == number {
-                return true;
-            }
-        }
-    }
-    false
-}
-
-// Is it the answer that ports and a search for a table ask for?
-fn rightly_answered<L: Layout>(
-    layout: &L,
-    shape: &Shape,
-    before: &Sheet<Session>,
-    step: Step,
-    answer: Answer,
-) -> Verdict {
-    match step {
-        Step::Add {
-            source,
-            destination,
-        } => {
-            if source == destination {
-                return told(answer == Err(CallRefusal::SameSite));
-            }
-            let (sent, _) = in_use(before, source);
-            let (_, received) = in_use(before, destination);
-            if sent >= shape.ports_of(source) {
-                return told(answer == Err(CallRefusal::NoTransmitter));
-            }
-            if received >= shape.ports_of(destination) {
-                return told(answer == Err(CallRefusal::NoReceiver));
-            }
-            let new = Ends {
-                source,
-                destination,
-            };
-            let full = (answer == Err(CallRefusal::SourceFull))
-                | (answer == Err(CallRefusal::DestinationFull));
-            let exists = serves_with(layout, before, new, shape.waves);
-            Verdict {
-                right: (exists & answer.is_ok()) | (!exists & full),
-                searched: true,
-            }
-        }
-        Step::Drop { number } => {
-            if is_standing(before, number) {
-                told(answer.is_ok())
-            } else {
-                told(answer == Err(CallRefusal::NotStanding))
-            }
-        }
+    // Both plants hear what the rows say, and nothing else.
+    fn hears(&self, layout: &L, rows: &[Session]) -> bool {
+        (0..self.copy.waves()).all(|w| {
+            (0..self.copy.groups()).all(|b| {
+                let told = heard_by(layout, rows, w, b);
+                self.controller.heard(w, b) == told && self.copy.heard(w, b) == told
+            })
+        })
     }
 }
 
 // The source group of the row on `w` into group `b`.
-fn heard_by<L: Layout>(layout: &L, rows: &Sheet<Session>, w: u8, b: u8) -> Option<u8> {
-    for i in 0..rows.len() {
-        if let Ok(s) = rows.read(i) {
-            if (s.wavelength == w) & (layout.group(s.destination) == b) {
-                return Some(layout.group(s.source));
-            }
-        }
-    }
-    None
-}
-
-// Both plants hear what the rows say, and nothing else.
-fn hears_rows<L: Layout + Drop, P: Plant + Drop, Q: Plant>(
-    layout: &L,
-    controller: &Controller<L, P>,
-    copy: &Q,
-    rows: &Sheet<Session>,
-) -> bool {
-    let mut right = true;
-    for w in 0..copy.waves() {
-        for b in 0..copy.groups() {
-            let told = heard_by(layout, rows, w, b);
-            right = (controller.heard(w, b) == told) & (copy.heard(w, b) == told) & right;
-        }
-    }
-    right
+fn heard_by<L: Layout>(layout: &L, rows: &[Session], w: u8, b: u8) -> Option<u8> {
+    rows.iter()
+        .find(|s| s.wavelength == w && layout.group(s.destination) == b)
+        .map(|s| layout.group(s.source))
 }
 
 // No two rows that light one fibre share a wavelength.
-fn unblinded<L: Layout>(layout: &L, rows: &Sheet<Session>) -> bool {
-    for i in 0..rows.len() {
-        for j in 0..i {
-            if let (Ok(s), Ok(t)) = (rows.read(i), rows.read(j)) {
-                if s.wavelength == t.wavelength && meet(layout, ends_of(s), ends_of(t)) {
-                    return false;
-                }
-            }
-        }
-    }
-    true
-}
-
-fn wavelength_of(rows: &Sheet<Session>, number: u32) -> Option<u8> {
-    for i in 0..rows.len() {
-        if let Ok(s) = rows.read(i) {
-            if s.number == number {
-                return Some(s.wavelength);
-            }
-        }
-    }
-    None
+fn is_unblinded<L: Layout>(layout: &L, rows: &[Session]) -> bool {
+    rows.iter().enumerate().all(|(i, s)| {
+        rows.iter().take(i).all(|t| {
+            s.wavelength != t.wavelength || !meet(layout, Ends::from(*s), Ends::from(*t))
+        })
+    })
 }
 
 // How many of the rows before stand on another wavelength after.
-fn retuned(before: &Sheet<Session>, after: &Sheet<Session>) -> u8 {
-    let mut moved: u8 = 0;
-    for i in 0..before.len() {
-        if let Ok(s) = before.read(i) {
-            if let Some(w) = wavelength_of(after, s.number) {
-                if w != s.wavelength {
-                    moved = moved.saturating_add(1);
-                }
-            }
+fn retuned(before: &[Session], after: &[Session]) -> usize {
+    before
+        .iter()
+        .filter(|s| {
+            after
+                .iter()
+                .any(|t| t.number == s.number && t.wavelength != s.wavelength)
+        })
+        .count()
+}
+
+// Does a table exist for the rows with one session more?
+fn serves_with<L: Layout>(
+    alloc: Global,
+    layout: &L,
+    rows: &[Session],
+    new: Ends,
+    waves: u8,
+) -> Result<bool, AllocError> {
+    let mut sessions = Vec::with_capacity(alloc, rows.len())?;
+    for s in rows {
+        sessions.push(Ends::from(*s))?;
+    }
+    sessions.push(new)?;
+    table_exists(alloc, layout, sessions.as_slice(), waves)
+}
+
+// What is the call to be answered?
+fn asked<L: Layout>(
+    alloc: Global,
+    layout: &L,
+    shape: &Shape,
+    before: &[Session],
+    step: Step,
+) -> Result<Due, AllocError> {
+    let new = match step {
+        Step::Add { number: _, ends } => ends,
+        Step::Drop { number } if before.iter().any(|s| s.number == number) => {
+            return Ok(Due::Accepted);
         }
+        Step::Drop { number: _ } => return Ok(Due::Refused(CallRefusal::NotStanding)),
+    };
+    if new.source == new.destination {
+        return Ok(Due::Refused(CallRefusal::SameSite));
     }
-    moved
-}
-
-// As many moves as it says, fewer than groups, and 2 × moves + 1 orders; a refusal writes none.
-fn rightly_counted(answer: Answer, groups: u8, orders: usize, moved: u8) -> bool {
-    match answer {
-        Ok(moves) => { (moves == moved) & (moves < groups) & (orders == 2 * (moves as usize) + 1) }
-        Err(_) => (moved == 0) & (orders == 0),
+    let sent = before.iter().filter(|s| s.source == new.source).count();
+    if sent >= usize::from(shape.ports_of(new.source)) {
+        return Ok(Due::Refused(CallRefusal::NoTransmitter));
     }
-}
-
-// A number that tells the table: five bits for each wavelength and source group.
-fn key_of<L: Layout>(layout: &L, rows: &Sheet<Session>) -> u64 {
-    let mut key: u64 = 0;
-    for i in 0..rows.len() {
-        if let Ok(s) = rows.read(i) {
-            let place = (s.wavelength as u32)
-                .saturating_mul(4)
-                .saturating_add(layout.group(s.source) as u32)
-                .min(11);
-            let both = (s.source as u64 % 4) * 4 + s.destination as u64 % 4 + 1;
-            key |= both << (5 * place);
-        }
+    let received = before
+        .iter()
+        .filter(|s| s.destination == new.destination)
+        .count();
+    if received >= usize::from(shape.ports_of(new.destination)) {
+        return Ok(Due::Refused(CallRefusal::NoReceiver));
     }
-    key
-}
-
-/// The longest list of calls.
-pub(crate) const LENGTH: usize = 5;
-
-/// A list of calls.
-#[derive(Clone, Copy)]
-pub(crate) struct Calls {
-    steps: [Step; LENGTH],
-    count: usize,
-}
-
-impl Calls {
-    pub(crate) fn none() -> Calls {
-        Calls {
-            steps: [Step::Drop { number: 0 }; LENGTH],
-            count: 0,
-        }
+    if serves_with(alloc, layout, before, new, shape.waves)? {
+        Ok(Due::Table)
+    } else {
+        Ok(Due::NoTable)
     }
-
-    pub(crate) fn len(&self) -> u32 {
-        self.count.min(LENGTH) as u32
-    }
-
-    /// With one call more, where there is room.
-    pub(crate) fn with(mut self, step: Step) -> Calls {
-        if self.count < LENGTH {
-            self.steps[self.count] = step;
-            self.count += 1;
-        }
-        self
-    }
-}
-
-// Serves the calls but for the last, with their orders put to the copy too.
-fn follow<L: Layout + Drop, P: Plant + Drop, Q: Plant>(
-    controller: &mut Controller<L, P>,
-    copy: &mut Q,
-    limit: u8,
-    calls: &Calls,
-    orders: &mut Sheet<Order>,
-    walk: &mut [u16],
-) -> u32 {
-    let mut number: u32 = 1;
-    for step in calls.steps.iter().take(calls.count.saturating_sub(1)) {
-        let _ = take(controller, limit, *step, number, orders, walk);
-        let _ = all_accepted(orders, copy);
-        number = number.wrapping_add(1);
-    }
-    number
 }
 
 /// Serves the calls on a new controller, and looks at the last of them from outside.
 pub(crate) fn play<L: Layout + Drop, P: Plant + Drop, Q: Plant + Drop>(
+    alloc: Global,
     layout: &L,
-    mut controller: Controller<L, P>,
-    mut copy: Q,
+    mut bench: Bench<L, P, Q>,
     shape: &Shape,
-    calls: &Calls,
-) -> Outcome {
-    let mut order_places = [NO_ORDER; 8];
-    let mut before_places = [NOBODY; 16];
-    let mut after_places = [NOBODY; 16];
-    let mut walk = [0u16; 8];
-    let mut orders = Sheet::new(&mut order_places);
-    let mut before = Sheet::new(&mut before_places);
-    let mut after = Sheet::new(&mut after_places);
-    let limit = copy.groups().saturating_sub(1);
-    let number = follow(
-        &mut controller,
-        &mut copy,
-        limit,
-        calls,
-        &mut orders,
-        &mut walk,
-    );
-    let listed = controller.list(&mut before).is_ok();
-    let Some(last) = calls.steps.get(calls.count.saturating_sub(1)) else {
-        return Outcome {
-            key: 0,
-            searched: false,
-            agrees: false,
-        };
-    };
-    let answer = take(
-        &mut controller,
-        limit,
-        *last,
-        number,
-        &mut orders,
-        &mut walk,
-    );
-    let accepted = all_accepted(&orders, &mut copy);
-    let again = controller.list(&mut after).is_ok();
-    let verdict = rightly_answered(layout, shape, &before, *last, answer);
-    let agrees = verdict.right
-        & hears_rows(layout, &controller, &copy, &after)
-        & unblinded(layout, &after)
-        & rightly_counted(
-            answer,
-            copy.groups(),
-            orders.len(),
-            retuned(&before, &after),
-        );
-    Outcome {
-        key: key_of(layout, &after),
-        searched: verdict.searched,
-        agrees: agrees & listed & again & accepted,
+    earlier: &[Step],
+    last: Step,
+) -> Result<Outcome, AllocError> {
+    for step in earlier {
+        bench.serve(*step);
     }
+    let mut places_before = [Session::default(); 16];
+    let mut places_after = [Session::default(); 16];
+    let mut before = Sheet::new(&mut places_before);
+    let mut after = Sheet::new(&mut places_after);
+    let listed = bench.controller.list(&mut before).is_ok();
+    let served = bench.serve(last);
+    let listed_again = bench.controller.list(&mut after).is_ok();
+    let (before, after) = (before.as_slice(), after.as_slice());
+    let due = asked(alloc, layout, shape, before, last)?;
+    let agrees = listed
+        && listed_again
+        && due.is_met_by(served.answer)
+        && bench.hears(layout, after)
+        && is_unblinded(layout, after)
+        && served.is_rightly_counted(bench.copy.groups(), retuned(before, after));
+    let table = after
+        .iter()
+        .map(|s| (s.wavelength, Ends::from(*s)))
+        .collect(alloc)?;
+    Ok(Outcome {
+        table,
+        searched: due.was_searched(),
+        agrees,
+    })
 }

@@ -1,28 +1,37 @@
--- What a sheet answers, and its count and places after it: n is the count, ps is what the places hold.
-use Rattle.std.specs.Prelude.{ℕ, zero, suc, ◌+◌, cond, List, [], ◌∷◌, length, take, Ok, Err, Result, nat_lt, slice_set}
+-- A sheet as its caller sees it, and what its calls answer and leave.
+use Rattle.std.specs.Prelude.{ℕ, ◌+◌, cond, List, ◌++◌, length, take, drop, Some, None, Ok, Err, Option, Result, nat_lt, slice_get, slice_set}
+use Rattle.std.specs.Option.{ok_or}
 use Rattle.sheet.specs.declared.refusal.SheetRefusal.{SheetRefusal}
 use Rattle.sheet.specs.declared.refusal.SheetRefusal.TheVariants.{Full, Unwritten}
+
+-- which memory was lent, how many records are written, and what all of its places hold
+pub record Page (X : Type 0) : Type 0 where
+  pub memory : ℕ
+  pub count : ℕ
+  pub places : List X
 
 abbrev pub refusal_number : SheetRefusal → ℕ
 refusal_number Full = 41
 refusal_number Unwritten = 42
 
 -- the records written
-abbrev pub records : {X : Type 0} → ℕ → List X → List X
-records n ps = take n ps
+abbrev pub records : {X : Type 0} → Page X → List X
+records s = take s.count s.places
+
+-- None leaves a sheet as it is; else it is emptied first, and the places behind what is written are kept
+abbrev pub rewritten : {X : Type 0} → Option (List X) → Page X → Page X
+rewritten None s = s
+rewritten (Some xs) s = record { memory = s.memory; count = length xs; places = xs ++ drop (length xs) s.places }
 
 -- is a place unused?
-abbrev pub put_answer : {X : Type 0} → ℕ → List X → Result (Unit {0}) SheetRefusal
-put_answer n ps = cond (nat_lt n (length ps)) (Ok tt) (Err Full)
+abbrev pub put_answer : {X : Type 0} → Page X → Result (Unit {0}) SheetRefusal
+put_answer s = cond (nat_lt s.count (length s.places)) (Ok tt) (Err Full)
 
-abbrev pub put_count : {X : Type 0} → ℕ → List X → ℕ
-put_count n ps = cond (nat_lt n (length ps)) (n + 1) n
-
-abbrev pub put_places : {X : Type 0} → ℕ → List X → X → List X
-put_places n ps x = cond (nat_lt n (length ps)) (slice_set ps n x) ps
+-- one record more, where a place is unused
+abbrev pub with_record : {X : Type 0} → Page X → X → Page X
+with_record s x =
+    cond (nat_lt s.count (length s.places)) (record { memory = s.memory; count = s.count + 1; places = slice_set s.places s.count x }) s
 
 -- the record at i, of those written
 abbrev pub record_at : {X : Type 0} → List X → ℕ → Result X SheetRefusal
-record_at [] i = Err Unwritten
-record_at (x ∷ xs) zero = Ok x
-record_at (x ∷ xs) (suc i) = record_at xs i
+record_at xs i = ok_or (slice_get xs i) Unwritten

@@ -2,5 +2,6 @@
 #![tactic(auto)]
 
 pub mod extent;
+pub mod records;
 pub mod refusal;
 pub mod sheet;

@@ -1,6 +1,3 @@
-mod Answering
-mod Calling
-mod Listing
 mod Reading
 mod Serving
 mod Starting

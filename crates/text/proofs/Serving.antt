@@ -1,5 +1,5 @@
 -- After a run that ends in a list, the sheet shows the rows of the last reply; so what is written is the text's answer.
-use Rattle.std.proofs.Common.{◌≡◌, ℕ, zero, suc, ◌-◌, List, [], ◌∷◌, ◌++◌, length, get_or, drop, Some, None, Ok, Err, Result, OnErr, inr, sym, refl, ap, ◌∙◌, subst, arith}
+use Rattle.std.proofs.Common.{◌≡◌, ℕ, zero, suc, ◌-◌, List, [], ◌∷◌, ◌++◌, length, get_or, drop, Some, None, Ok, Err, Result, IfOk, OnErr, string_bytes, String, inr, sym, refl, ap, ◌∙◌, subst, arith}
 use Rattle.std.proofs.lemmas.List.{get_or_push, length_push, take_at}
 use Rattle.network.specs.declared.layout.Layout.{Ghosts as LayoutGhosts}
 use Rattle.request.specs.Lines.{read_text}
@@ -10,7 +10,8 @@ use Rattle.reckoning.specs.declared.session.Session.{Session}
 use Rattle.reckoning.specs.Calls.{Answer, refused, listed, Reply, judged, replies}
 use Rattle.reckoning.specs.Parts.{Parts}
 use Rattle.reckoning.specs.Questions.{Room, verdict, list_questions}
-use Rattle.reckoning.specs.Runs.{Page, Moment, rewritten, room_in, reply_in, Answered, Run}
+use Rattle.sheet.specs.Sheets.{Page, rewritten}
+use Rattle.reckoning.specs.Runs.{Moment, room_in, reply_in, Answered, Run}
 use Rattle.reckoning.specs.Sheets.{rows_of}
 use Rattle.reckoning.proofs.Serving.{run_last}
 use Rattle.book.specs.Books.{parts_in}
@@ -33,11 +34,7 @@ last_reply L [] (a ∷ rest) m m' e = absurd e
 last_reply L (c ∷ cs) [] m m' e = absurd e
 last_reply L (c ∷ cs) (a ∷ rest) m m' (u, x, run) =
     let y : Reply = reply_in L m c in
-    let all : List Call = cs ++ (Rows ∷ []) in
-    last_behind L (room_in m) y.after y.walk y cs Rows
-    ∙ ap (λ (r : Room). last_rows (replies L r y.after y.walk all)) (sym x.room)
-    ∙ ap (λ (ss : List Session). last_rows (replies L (room_in u) ss y.walk all)) (sym x.standing)
-    ∙ ap (λ (ns : List ℕ). last_rows (replies L (room_in u) u.standing ns all)) (sym x.walk) ∙ last_reply L cs rest u m' run
+    last_behind L (room_in m) y.after y.walk y cs Rows ∙ rw (sym x.walk) (rw (sym x.standing) (rw (sym x.room) (last_reply L cs rest u m' run)))
 
 -- ---- what the sheet shows
 
@@ -75,11 +72,15 @@ text_served E c text es calls answers m m' output r k s o =
     let ys : List Reply = replies L (room_in m) m.standing m.walk (calls_of (read_text text)) in
     record {
       bytes =
-          o ∙ ap (λ (x : List Entry). output_bytes x answers (rows_shown answers m'.rows)) r
-          ∙ ap (output_bytes (read_text text) answers) (rows_shown_lem L (asked (read_text text)) answers m m' told.answered)
-          ∙ ap (λ (xs : List Answer). output_bytes (read_text text) xs (last_rows ys)) told.replied.0;
+          o ∙ rw r (rw (rows_shown_lem L (asked (read_text text)) answers m m' told.answered) (rw told.replied.0 refl));
       served = (answers, told);
     }
+
+-- what was written is just that
+pub all_written : {N P A Y : Type 0} (E : LayoutGhosts N) (c : Controller N P) (text : List ℕ) (es : List Entry) (calls : List Call) (answers : List Answer) (m m' : Moment) (r : Result (String A) Y) →
+    es ≡ read_text text → calls ≡ calls_of es → Served E c calls answers m m' → IfOk r (λ s. string_bytes s ≡ output_bytes es answers (rows_shown answers m'.rows)) → IfOk r (λ s. ServedText E c text (string_bytes s) m m')
+all_written E c text es calls answers m m' (Ok s) r k served o = text_served E c text es calls answers m m' (string_bytes s) r k served o
+all_written E c text es calls answers m m' (Err e) r k served o = tt
 
 -- where all of the text's calls were served, that is so whether or not what they answered was written
 pub all_served_then : {N P X Y : Type 0} (E : LayoutGhosts N) (c : Controller N P) (text : List ℕ) (es : List Entry) (calls : List Call) (answers : List Answer) (m m' : Moment) (r : Result X Y) →

@@ -1,5 +1,5 @@
 -- A controller that is new answers a text from its parts as told, and from a dark plant its run is lawful.
-use Rattle.std.proofs.Common.{◌≡◌, ℕ, true, List, [], map, length, ap, ◌∙◌, subst}
+use Rattle.std.proofs.Common.{◌≡◌, ℕ, true, List, [], map, length, refl, ap, ◌∙◌, subst}
 use Rattle.network.specs.Network.{Network, Meeting}
 use Rattle.network.specs.declared.layout.Layout.{Ghosts as LayoutGhosts}
 use Rattle.plant.specs.Switch.{Switch}
@@ -9,26 +9,21 @@ use Rattle.reckoning.specs.declared.order.Order.{Order}
 use Rattle.reckoning.specs.declared.session.Session.{Session}
 use Rattle.reckoning.specs.Calls.{Reply, standing_after}
 use Rattle.reckoning.specs.Parts.{Parts, is_dark, parts_told}
-use Rattle.reckoning.specs.Questions.{Room}
-use Rattle.reckoning.specs.Runs.{Page, room_in, Lawful}
+use Rattle.sheet.specs.Sheets.{Page}
+use Rattle.reckoning.specs.Runs.{Moment, room_in, Lawful}
 use Rattle.book.specs.Books.{parts_in, standing_in}
 use Rattle.controller.specs.declared.controller.Controller.{Controller}
 use Rattle.controller.specs.Service.{Made, moment}
 use Rattle.text.specs.Asked.{calls_of}
 use Rattle.text.specs.Lists.{last_rows}
 use Rattle.text.specs.Served.{ServedText, output_bytes, text_replies}
-use Rattle.text.specs.Stars.{small_room, small_walk, new_replies, new_bytes, NewRun}
+use Rattle.text.specs.Stars.{small_walk, new_replies, new_bytes, NewRun}
 
-module _ {N P : Type 0} (E : LayoutGhosts N) (D : PlantGhosts P) (layout : N) (plant : P) (c c' : Controller N P) (new : Made E D layout plant c)
-    (o o' : Page Order) (r r' : Page Session) (walk walk' : List ℕ) (seven : length o.places ≡ 7) (eight : length r.places ≡ 8) (six : walk ≡ small_walk)
-    (text output : List ℕ) (s : ServedText E c text output (moment D c o r walk) (moment D c' o' r' walk')) where
+module _ {N P : Type 0} (E : LayoutGhosts N) (D : PlantGhosts P) (layout : N) (plant : P) (c : Controller N P) (new : Made E D layout plant c)
+    (o : Page Order) (r : Page Session) (walk : List ℕ) (m' : Moment) (seven : length o.places ≡ 7) (eight : length r.places ≡ 8) (six : walk ≡ small_walk)
+    (text output : List ℕ) (s : ServedText E c text output (moment D c o r walk) m') where
   replies_so : text_replies (parts_in c.book) (room_in (moment D c o r walk)) (standing_in c.book) walk text ≡ new_replies (E.network layout) (D.state plant) text
-  replies_so =
-      let L : Parts = parts_told (E.network layout) (D.state plant) in
-      let room : room_in (moment D c o r walk) ≡ small_room = ap (λ (n : ℕ). record { orders = n; rows = length r.places }) seven ∙ ap (λ (n : ℕ). record { orders = 7; rows = n }) eight in
-      ap (λ (K : Parts). text_replies K (room_in (moment D c o r walk)) (standing_in c.book) walk text) new.told
-      ∙ ap (λ (x : Room). text_replies L x (standing_in c.book) walk text) room
-      ∙ ap (λ (ss : List Session). text_replies L small_room ss walk text) new.none ∙ ap (λ (ns : List ℕ). text_replies L small_room [] ns text) six
+  replies_so = simp (new.told, new.none, seven, eight, six) refl
 
   pub new_bytes_lem : output ≡ new_bytes (E.network layout) (D.state plant) text
   unfolding new_bytes
@@ -37,7 +32,6 @@ module _ {N P : Type 0} (E : LayoutGhosts N) (D : PlantGhosts P) (layout : N) (p
   pub new_run : is_dark (D.state plant) ≡ true → NewRun (E.network layout) (D.state plant) text
   new_run dark =
       let m = moment D c o r walk in
-      let m' = moment D c' o' r' walk' in
       let answers = s.served.0 in
       let told = s.served.1 in
       record {
@@ -57,9 +51,6 @@ module _ {N P : Type 0} (E : LayoutGhosts N) (D : PlantGhosts P) (layout : N) (p
       }
 
 -- parts that are known
-pub at_parts : (n n' : Network) (t t' : Switch) (text output : List ℕ) → n ≡ n' → t ≡ t' → output ≡ new_bytes n t text → output ≡ new_bytes n' t' text
-at_parts n n' t t' text output e k p = p ∙ ap (λ (x : Network). new_bytes x t text) e ∙ ap (λ (x : Switch). new_bytes n' x text) k
-
 pub dark_run : (n n' : Network) (t t' : Switch) (text : List ℕ) → n ≡ n' → t ≡ t' → is_dark t' ≡ true → (is_dark t ≡ true → NewRun n t text) → NewRun n' t' text
 dark_run n n' t t' text e k dark run =
     subst (λ (x : Network). NewRun x t' text) e (subst (λ (x : Switch). NewRun n x text) k (run (ap is_dark k ∙ dark)))

@@ -5,7 +5,7 @@ use Rattle.request.specs.declared.fault.RunFault.{RunFault}
 use Rattle.request.specs.declared.layer.Layer.TheVariants.{Session}
 use Rattle.request.specs.declared.reader.Entry.{Entry}
 use Rattle.reckoning.specs.Calls.{Answer, refused, admitted, quoted, released, found, listed}
-use Rattle.text.specs.Rows.{fault_row}
+use Rattle.text.specs.Rows.{plain_row, fault_row}
 use Rattle.text.specs.declared.answers.Row.{Row}
 
 -- a request that was accepted, with its wavelength and its moves
@@ -23,7 +23,7 @@ answer_row n (admitted w m) = accepted_row n w m
 answer_row n (quoted w m) = accepted_row n w m
 answer_row n (released w) = accepted_row n w 0
 answer_row n (found w s d) = accepted_row n w 0
-answer_row n (listed k) = record { line = n; answer = 0; layer = None; word = None; wavelength = None; moves = None }
+answer_row n (listed k) = plain_row n
 
 -- the row of one line: its fault, or the first of the answers
 abbrev pub row_for : ℕ → Result Request RunFault → List Answer → List Row

@@ -1,6 +1,5 @@
 -- The calls that a text asks for.
-use Rattle.std.specs.Prelude.{List, [], ◌∷◌, ◌++◌, Ok, Err, Result}
-use Rattle.std.specs.List.{flat_map}
+use Rattle.std.specs.Prelude.{List, [], ◌∷◌, ◌++◌, filter_map, Some, None, Option, Ok, Err, Result}
 use Rattle.request.specs.declared.act.Act.{Act}
 use Rattle.request.specs.declared.act.Act.TheVariants as act
 use Rattle.request.specs.declared.act.Request.{Request}
@@ -17,13 +16,13 @@ call_of (act.Quote s f t) = Quote s f t
 call_of (act.Find s) = Where s
 
 -- a line that reads well asks for one call, a fault for none
-abbrev pub outcome_calls : Result Request RunFault → List Call
-outcome_calls (Ok q) = call_of q.act ∷ []
-outcome_calls (Err f) = []
+abbrev pub outcome_call : Result Request RunFault → Option Call
+outcome_call (Ok q) = Some (call_of q.act)
+outcome_call (Err f) = None
 
 -- the calls of the lines that read well, in order
 abbrev pub asked : List Entry → List Call
-asked es = flat_map (λ e. outcome_calls e.outcome) es
+asked es = filter_map (λ e. outcome_call e.outcome) es
 
 -- with a list behind them, so that a run ends with the sessions that stand
 abbrev pub calls_of : List Entry → List Call

@@ -2,7 +2,7 @@
 use Rattle.std.specs.Prelude.{ℕ, ◌-◌, Bool, true, false, cond, List, [], ◌∷◌, ◌++◌, length, Some, None, codes, decimal, Option, slice_index_or}
 use Rattle.std.specs.List.{flat_map}
 use Rattle.reckoning.specs.declared.session.Session.{Session}
-use Rattle.reckoning.specs.Runs.{Page, records}
+use Rattle.sheet.specs.Sheets.{Page, records}
 use Rattle.reckoning.specs.Calls.{Answer, refused, admitted, quoted, released, found, listed, Reply}
 
 -- a line of the list

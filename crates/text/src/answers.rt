@@ -1,7 +1,7 @@
 //! The answer table.
-ghost use Rattle.request.specs.Faults.{layer_bytes};
-ghost use Rattle.std.specs.Prelude.{◌≡◌, ◌++◌, IfOk, Some, string_bytes, decimal, OnOk};
-ghost use Rattle.text.specs.Rows.{fault_row, or_dash, row_bytes, table_bytes};
+ghost use Rattle.std.specs.Option.{option_map_or};
+ghost use Rattle.std.specs.Prelude.{◌≡◌, IfOk, Some, codes, string_bytes};
+ghost use Rattle.text.specs.Rows.{fault_row, plain_row, row_bytes, table_bytes};
 
 use request::fault::RunFault;
 use request::layer::Layer;
@@ -19,46 +19,45 @@ pub struct Row {
     pub moves: Option<u32>,
 }
 
-/// The row that answers a fault.
-pub(crate) fn fault_row(line: u32, fault: RunFault) -> Row
-    ensures { result ≡ fault_row line fault }
-{
-    Row {
-        line,
-        answer: fault.number(),
-        layer: Some(fault.layer()),
-        word: fault.word(),
-        wavelength: None,
-        moves: None,
+impl Row {
+    /// The row of a line that is accepted, of which no more is told.
+    pub(crate) fn accepted(line: u32) -> Row
+        ensures { result ≡ plain_row line }
+    {
+        Row {
+            line,
+            answer: 0,
+            layer: None,
+            word: None,
+            wavelength: None,
+            moves: None,
+        }
     }
-}
 
-/// A number, or `-` where none is given.
-#[derive(Clone, Copy)]
-struct NumberOrDash(Option<u32>);
-
-impl fmt::Display for NumberOrDash {
-    ghost output = { λ x. Some (or_dash decimal x.0) };
-
-    fn fmt<W: fmt::Write>(&self, f: &mut fmt::Formatter<W>) -> fmt::Result {
-        match self.0 {
-            None => write!(f, "-"),
-            Some(number) => write!(f, "{number}"),
+    /// The row that answers a fault.
+    pub(crate) fn fault(line: u32, fault: RunFault) -> Row
+        ensures { result ≡ fault_row line fault }
+    {
+        Row {
+            answer: fault.number(),
+            layer: Some(fault.layer()),
+            word: fault.word(),
+            ..Row::accepted(line)
         }
     }
 }
 
-/// A layer, or `-` where none is given.
+/// A value, or `-` where none is given.
 #[derive(Clone, Copy)]
-struct LayerOrDash(Option<Layer>);
+struct OrDash<T>(Option<T>);
 
-impl fmt::Display for LayerOrDash {
-    ghost output = { λ x. Some (or_dash layer_bytes x.0) };
+impl<T: fmt::Display> fmt::Display for OrDash<T> {
+    ghost output = { λ x. option_map_or T.output x.0 (Some (codes "-")) };
 
     fn fmt<W: fmt::Write>(&self, f: &mut fmt::Formatter<W>) -> fmt::Result {
-        match self.0 {
+        match &self.0 {
             None => write!(f, "-"),
-            Some(layer) => write!(f, "{layer}"),
+            Some(value) => write!(f, "{value}"),
         }
     }
 }
@@ -68,31 +67,21 @@ impl fmt::Display for Row {
 
     fn fmt<W: fmt::Write>(&self, f: &mut fmt::Formatter<W>) -> fmt::Result {
         let Row { line, answer, .. } = *self;
-        let layer = LayerOrDash(self.layer);
-        let word = NumberOrDash(self.word);
-        let wavelength = NumberOrDash(self.wavelength);
-        let moves = NumberOrDash(self.moves);
+        let layer = OrDash(self.layer);
+        let word = OrDash(self.word);
+        let wavelength = OrDash(self.wavelength);
+        let moves = OrDash(self.moves);
         write!(f, "{line} {answer} {layer} {word} {wavelength} {moves}\n")
     }
 }
 
-/// Appends a row. Writing to a string fails only for want of memory.
-fn add_row(out: &mut String, row: &Row) -> Result<(), AllocError>
-    ensures { OnOk result (string_bytes out.new ≡ string_bytes out.old ++ row_bytes row.now) }
-{
-    match write!(out, "{row}") {
-        Ok(()) => Ok(()),
-        Err(_) => Err(AllocError),
-    }
-}
-
 /// The names line, and then the rows.
-pub fn table(heap: Global, rows: &[Row]) -> Result<String, AllocError>
+pub fn table(alloc: Global, rows: &[Row]) -> Result<String, AllocError>
     ensures { IfOk result (λ s. string_bytes s ≡ table_bytes rows.now) }
 {
-    let mut out = String::from_str(heap, "line answer layer word wavelength moves\n")?;
+    let mut out = String::from_str(alloc, "line answer layer word wavelength moves\n")?;
     for row in rows {
-        add_row(&mut out, row)?;
+        write!(out, "{row}")?;
     }
     Ok(out)
 }

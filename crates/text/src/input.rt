@@ -22,12 +22,12 @@ fn read_block<R: Read>(source: &mut R, block: &mut [u8], text: &mut Vec<u8>) -> 
 
 /// Reads a text, and no more than one byte past the largest: that byte tells that it is too long.
 /// After an error, what was read is lost.
-pub fn read_input<R: Read>(heap: Global, source: &mut R) -> io::Result<Vec<u8>>
+pub fn read_input<R: Read>(alloc: Global, source: &mut R) -> io::Result<Vec<u8>>
     ensures few { IfOk result (λ v. vec_len v ≤ 65537) }
     ensures bytes { IfOk result (λ v. IfSome (R.remaining source.old) (λ xs. v.items ≡ take 65537 xs)) }
     ensures consumed { IfOk result (λ v. Consumes (R.remaining source.old) (R.remaining source.new) v.items) }
 {
-    let mut text = Vec::new(heap);
+    let mut text = Vec::new(alloc);
     while text.len() <= MOST_BYTES {
         let mut block = [0u8; 4096];
         let room = (MOST_BYTES + 1 - text.len()).min(block.len());

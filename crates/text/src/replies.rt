@@ -3,7 +3,7 @@ ghost use Rattle.controller.specs.Service.{answer_of};
 ghost use Rattle.std.specs.Prelude.{◌≡◌, map, IfOk};
 ghost use Rattle.text.specs.Answered.{accepted_row, answer_row, refused_row, rows_for};
 
-use crate::answers::{Row, fault_row};
+use crate::answers::Row;
 use book::refusal::CallRefusal;
 use controller::answer::Answer;
 use request::layer::Layer;
@@ -14,12 +14,9 @@ fn accepted_row(line: u32, wavelength: u8, moves: u8) -> Row
     ensures { result ≡ accepted_row line wavelength moves }
 {
     Row {
-        line,
-        answer: 0,
-        layer: None,
-        word: None,
         wavelength: Some(u32::from(wavelength)),
         moves: Some(u32::from(moves)),
+        ..Row::accepted(line)
     }
 }
 
@@ -27,12 +24,9 @@ fn refused_row(line: u32, number: u8) -> Row
     ensures { result ≡ refused_row line number }
 {
     Row {
-        line,
         answer: u32::from(number),
         layer: Some(Layer::Session),
-        word: None,
-        wavelength: None,
-        moves: None,
+        ..Row::accepted(line)
     }
 }
 
@@ -45,37 +39,29 @@ fn answer_row(line: u32, answer: Result<Answer, CallRefusal>) -> Row
         Ok(Answer::Quoted { wavelength, moves }) => accepted_row(line, wavelength, moves),
         Ok(Answer::Released { wavelength }) => accepted_row(line, wavelength, 0),
         Ok(Answer::Found { wavelength, .. }) => accepted_row(line, wavelength, 0),
-        Ok(Answer::Listed { .. }) => Row {
-            line,
-            answer: 0,
-            layer: None,
-            word: None,
-            wavelength: None,
-            moves: None,
-        },
+        Ok(Answer::Listed { .. }) => Row::accepted(line),
         Err(refusal) => refused_row(line, refusal.number()),
     }
 }
 
 /// A row for each line: its fault, or the next answer.
 pub(crate) fn answer_rows(
-    heap: Global,
+    alloc: Global,
     entries: &[Entry],
     answers: &[Result<Answer, CallRefusal>],
 ) -> Result<Vec<Row>, AllocError>
     ensures { IfOk result (λ v. v.items ≡ rows_for entries.now (map answer_of answers.now)) }
 {
-    let mut rows = Vec::new(heap);
-    let mut next = 0;
+    let mut rows = Vec::new(alloc);
+    let mut left = answers.iter();
     for entry in entries {
         match entry.outcome {
             Ok(_) => {
-                if next < answers.len() {
-                    rows.push(answer_row(entry.line, answers[next]))?;
-                    next += 1;
+                if let Some(answer) = left.next() {
+                    rows.push(answer_row(entry.line, *answer))?;
                 }
             }
-            Err(fault) => rows.push(fault_row(entry.line, fault))?,
+            Err(fault) => rows.push(Row::fault(entry.line, fault))?,
         }
     }
     Ok(rows)

@@ -1,9 +1,9 @@
 //! A text is read, its calls are served, and the answers are written.
-ghost use Rattle.book.specs.Pages.{page_of};
 ghost use Rattle.controller.specs.Service.{Same, answer_of, moment};
 ghost use Rattle.std.specs.Prelude.{◌≡◌, map, IfOk, OnErr, string_bytes};
 ghost use Rattle.text.specs.Lists.{rows_shown};
 ghost use Rattle.text.specs.Served.{NothingOrAll, ServedText, output_bytes};
+ghost use Rattle.sheet.specs.Pages.{page_of};
 
 use crate::answers::table;
 use crate::calls::calls_of;
@@ -22,23 +22,22 @@ use std::alloc::{AllocError, Global};
 
 /// The answer table, and the list of the sessions that stand once all is answered.
 fn write_answers(
-    heap: Global,
+    alloc: Global,
     entries: &[Entry],
     answers: &[Result<Answer, CallRefusal>],
     rows: &Sheet<Session>,
 ) -> Result<String, AllocError>
     ensures { IfOk result (λ s. string_bytes s ≡ output_bytes entries.now (map answer_of answers.now) (rows_shown (map answer_of answers.now) (page_of rows.now))) }
 {
-    let answered = answer_rows(heap, entries, answers)?;
-    let sessions = listed(heap, answers, rows)?;
-    let mut out = table(heap, answered.as_slice())?;
-    add_list(&mut out, sessions.as_slice())?;
+    let answered = answer_rows(alloc, entries, answers)?;
+    let mut out = table(alloc, answered.as_slice())?;
+    add_list(&mut out, listed(answers, rows))?;
     Ok(out)
 }
 
 /// Serves the calls of a text as one list, and writes the answer table and the list of the sessions that then stand.
 pub fn serve_text<L: Layout + Drop, P: Plant + Drop>(
-    heap: Global,
+    alloc: Global,
     controller: &mut Controller<L, P>,
     text: &[u8],
     orders: &mut Sheet<Order>,
@@ -53,8 +52,8 @@ pub fn serve_text<L: Layout + Drop, P: Plant + Drop>(
     // Memory may fail before the calls are served or after it.
     ensures failed { OnErr result (NothingOrAll L.Layout controller.old text.now (moment P.Plant controller.old (page_of orders.old) (page_of rows.old) walk.old) (moment P.Plant controller.new (page_of orders.new) (page_of rows.new) walk.new)) }
 {
-    let entries = read_text(heap, text)?;
-    let calls = calls_of(heap, entries.as_slice())?;
-    let answers = controller.serve(heap, calls.as_slice(), orders, rows, walk)?;
-    write_answers(heap, entries.as_slice(), answers.as_slice(), rows)
+    let entries = read_text(alloc, text)?;
+    let calls = calls_of(alloc, entries.as_slice())?;
+    let answers = controller.serve(alloc, calls.as_slice(), orders, rows, walk)?;
+    write_answers(alloc, entries.as_slice(), answers.as_slice(), rows)
 }

@@ -1,5 +1,5 @@
 //! A star of four sites with two ports each, on a hub of two wavelengths, served by text.
-ghost use Rattle.network.specs.Network.{star_stored};
+ghost use Rattle.network.specs.Network.{star};
 ghost use Rattle.plant.specs.Mirrors.{mirror_switch};
 ghost use Rattle.reckoning.specs.Parts.{is_dark};
 ghost use Rattle.std.specs.Prelude.{◌≡◌, true, IfOk, string_bytes, OnOk};
@@ -11,29 +11,14 @@ use network::layout::Layout;
 use network::star::Star;
 use plant::Plant;
 use plant::hub::MirrorHub;
-use reckoning::order::{Kind, Order};
+use reckoning::order::Order;
 use reckoning::session::Session;
 use sheet::sheet::Sheet;
 use std::alloc::{AllocError, Global};
 
-const NO_ORDER: Order = Order {
-    kind: Kind::Darken,
-    wavelength: 0,
-    source: 0,
-    destination: 0,
-    session: 0,
-};
-
-const NO_SESSION: Session = Session {
-    number: 0,
-    source: 0,
-    destination: 0,
-    wavelength: 0,
-};
-
 /// Serves a text on a new controller, with sheets that are ample for four groups and two wavelengths.
 fn serve_new<L: Layout + Drop, P: Plant + Drop>(
-    heap: Global,
+    alloc: Global,
     layout: L,
     plant: P,
     text: &[u8],
@@ -42,13 +27,13 @@ fn serve_new<L: Layout + Drop, P: Plant + Drop>(
     ensures law { OnOk result (is_dark (P.state plant) ≡ true → NewRun (L.network layout) (P.state plant) text.now) }
 {
     let mut controller = Controller::new(layout, plant);
-    let mut order_places = [NO_ORDER; 7];
-    let mut row_places = [NO_SESSION; 8];
+    let mut order_places = [Order::default(); 7];
+    let mut row_places = [Session::default(); 8];
     let mut walk = [0; 6];
     let mut orders = Sheet::new(&mut order_places);
     let mut rows = Sheet::new(&mut row_places);
     serve_text(
-        heap,
+        alloc,
         &mut controller,
         text,
         &mut orders,
@@ -59,7 +44,7 @@ fn serve_new<L: Layout + Drop, P: Plant + Drop>(
 
 /// Four sites with two ports each.
 fn four_sites() -> Star
-    ensures { star_stored result.sites result.ports ≡ four_sites }
+    ensures { star result.ports.items ≡ four_sites }
 {
     Star::new(&[2, 2, 2, 2])
 }
@@ -72,9 +57,9 @@ fn dark_hub() -> MirrorHub
 }
 
 /// Serves a text on the star from nothing: no session stands yet. The law of runs holds, with no premise.
-pub fn star_text(heap: Global, text: &[u8]) -> Result<String, AllocError>
+pub fn star_text(alloc: Global, text: &[u8]) -> Result<String, AllocError>
     ensures bytes { IfOk result (λ s. string_bytes s ≡ star_bytes text.now) }
     ensures law { OnOk result (StarRun text.now) }
 {
-    serve_new(heap, four_sites(), dark_hub(), text)
+    serve_new(alloc, four_sites(), dark_hub(), text)
 }

@@ -9,13 +9,13 @@ const NAMES: &[u8] = b"op session from to limit\n";
 /// Checks the rows of the table and the lines of the list for a whole text.
 fn check_served(
     rt: &impl Abort,
-    heap: Global,
+    alloc: Global,
     text: &[u8],
     rows: &str,
     list: &str,
 ) -> Result<(), Fail> {
-    let found = star_text(heap, text)?;
-    let expected = format!(in heap;
+    let found = star_text(alloc, text)?;
+    let expected = format!(in alloc;
         "line answer layer word wavelength moves\n{rows}session from to wavelength\n{list}"
     )?;
     assert_eq!(rt; found.as_str(), expected.as_str());
@@ -25,39 +25,39 @@ fn check_served(
 /// Checks what stands behind the names line.
 fn check_lines(
     rt: &impl Abort,
-    heap: Global,
+    alloc: Global,
     lines: &[u8],
     rows: &str,
     list: &str,
 ) -> Result<(), Fail> {
-    let mut text = Vec::from_slice(heap, NAMES)?;
+    let mut text = Vec::from_slice(alloc, NAMES)?;
     text.extend_from_slice(lines)?;
-    check_served(rt, heap, text.as_slice(), rows, list)
+    check_served(rt, alloc, text.as_slice(), rows, list)
 }
 
 #[test]
 fn nothing_served(rt: HostRuntime) -> Result<(), Fail> {
-    let heap = rt.alloc();
-    check_served(&rt, heap, b"", "1 72 text - - -\n", "")?;
-    check_served(&rt, heap, b"add 1 0 1 3\n", "1 72 text - - -\n", "")?;
-    check_served(&rt, heap, NAMES, "", "")?;
-    let long = vec![in heap; b'1'; 65_537]?;
-    check_served(&rt, heap, long.as_slice(), "1 71 text - - -\n", "")
+    let alloc = rt.alloc();
+    check_served(&rt, alloc, b"", "1 72 text - - -\n", "")?;
+    check_served(&rt, alloc, b"add 1 0 1 3\n", "1 72 text - - -\n", "")?;
+    check_served(&rt, alloc, NAMES, "", "")?;
+    let long = vec![in alloc; b'1'; 65_537]?;
+    check_served(&rt, alloc, long.as_slice(), "1 71 text - - -\n", "")
 }
 
 #[test]
 fn faults_between(rt: HostRuntime) -> Result<(), Fail> {
-    let heap = rt.alloc();
+    let alloc = rt.alloc();
     check_lines(
         &rt,
-        heap,
+        alloc,
         b"add 1 0 1 3\nadd 2 1  2 3\nfind 1 - - -\n",
         "2 0 - - 0 0\n3 74 line - - -\n4 0 - - 0 0\n",
         "1 0 1 0\n",
     )?;
     check_lines(
         &rt,
-        heap,
+        alloc,
         b"add 4294967295 3 0 0\nadd 2 0 1 3",
         "2 0 - - 0 0\n3 73 line - - -\n",
         "4294967295 3 0 0\n",
@@ -66,17 +66,17 @@ fn faults_between(rt: HostRuntime) -> Result<(), Fail> {
 
 #[test]
 fn numbers_refused(rt: HostRuntime) -> Result<(), Fail> {
-    let heap = rt.alloc();
+    let alloc = rt.alloc();
     check_lines(
         &rt,
-        heap,
+        alloc,
         b"find 9 - - -\ndrop 9 - - -\nfind 0 - - -\nadd 0 0 1 3\n",
         "2 15 session - - -\n3 15 session - - -\n4 11 session - - -\n5 11 session - - -\n",
         "",
     )?;
     check_lines(
         &rt,
-        heap,
+        alloc,
         b"add 1 0 4 3\nquote 1 2 2 -\nadd 1 2 3 0\nquote 1 0 1 -\n",
         "2 12 session - - -\n3 13 session - - -\n4 0 - - 0 0\n5 14 session - - -\n",
         "1 2 3 0\n",

@@ -13,25 +13,25 @@ use text::input::read_input;
 const NAMES: &[u8] = b"op session from to limit\n";
 
 /// Checks the rows of the table for a text.
-fn check_whole(rt: &impl Abort, heap: Global, text: &[u8], rows: &str) -> Result<(), Fail> {
-    let found = check_text(heap, text)?;
-    let expected = format!(in heap; "line answer layer word wavelength moves\n{rows}")?;
+fn check_whole(rt: &impl Abort, alloc: Global, text: &[u8], rows: &str) -> Result<(), Fail> {
+    let found = check_text(alloc, text)?;
+    let expected = format!(in alloc; "line answer layer word wavelength moves\n{rows}")?;
     assert_eq!(rt; found.as_str(), expected.as_str());
     Ok(())
 }
 
 /// Checks the rows for lines that stand behind the names line.
-fn check_lines(rt: &impl Abort, heap: Global, lines: &[u8], rows: &str) -> Result<(), Fail> {
-    let mut text = Vec::from_slice(heap, NAMES)?;
+fn check_lines(rt: &impl Abort, alloc: Global, lines: &[u8], rows: &str) -> Result<(), Fail> {
+    let mut text = Vec::from_slice(alloc, NAMES)?;
     text.extend_from_slice(lines)?;
-    check_whole(rt, heap, text.as_slice(), rows)
+    check_whole(rt, alloc, text.as_slice(), rows)
 }
 
 /// A text whose only request has a number of `count` bytes `digit` with `last` behind them.
-fn long_number(heap: Global, digit: u8, count: usize, last: &[u8]) -> Result<Vec<u8>, Fail> {
-    let mut text = Vec::from_slice(heap, NAMES)?;
+fn long_number(alloc: Global, digit: u8, count: usize, last: &[u8]) -> Result<Vec<u8>, Fail> {
+    let mut text = Vec::from_slice(alloc, NAMES)?;
     text.extend_from_slice(b"find ")?;
-    let digits = vec![in heap; digit; count]?;
+    let digits = vec![in alloc; digit; count]?;
     text.extend_from_slice(digits.as_slice())?;
     text.extend_from_slice(last)?;
     text.extend_from_slice(b" - - -\n")?;
@@ -41,10 +41,10 @@ fn long_number(heap: Global, digit: u8, count: usize, last: &[u8]) -> Result<Vec
 /// What the first line behind the names line reads as.
 fn first_outcome(
     rt: &impl Abort,
-    heap: Global,
+    alloc: Global,
     text: &[u8],
 ) -> Result<Result<Request, RunFault>, Fail> {
-    let entries = read_text(heap, text)?;
+    let entries = read_text(alloc, text)?;
     assert!(rt; entries.len() > 0);
     Ok(entries[0].outcome)
 }
@@ -120,15 +120,15 @@ fn single_lines(rt: HostRuntime) -> Result<(), Fail> {
 
 #[test]
 fn long_numbers(rt: HostRuntime) -> Result<(), Fail> {
-    let heap = rt.alloc();
-    let nines = long_number(heap, b'9', 60_000, b"")?;
-    check_whole(&rt, heap, nines.as_slice(), "2 82 number 2 - -\n")?;
-    let stray = long_number(heap, b'9', 60_000, b"x")?;
-    check_whole(&rt, heap, stray.as_slice(), "2 81 number 2 - -\n")?;
-    let zeros = long_number(heap, b'0', 60_000, b"7")?;
+    let alloc = rt.alloc();
+    let nines = long_number(alloc, b'9', 60_000, b"")?;
+    check_whole(&rt, alloc, nines.as_slice(), "2 82 number 2 - -\n")?;
+    let stray = long_number(alloc, b'9', 60_000, b"x")?;
+    check_whole(&rt, alloc, stray.as_slice(), "2 81 number 2 - -\n")?;
+    let zeros = long_number(alloc, b'0', 60_000, b"7")?;
     let act = Act::Find { session: 7 };
     assert_eq!(rt;
-        first_outcome(&rt, heap, zeros.as_slice())?,
+        first_outcome(&rt, alloc, zeros.as_slice())?,
         Ok(Request { line: 2, act })
     );
     Ok(())
@@ -136,24 +136,24 @@ fn long_numbers(rt: HostRuntime) -> Result<(), Fail> {
 
 #[test]
 fn largest_text(rt: HostRuntime) -> Result<(), Fail> {
-    let heap = rt.alloc();
-    let fits = long_number(heap, b'0', 65_498, b"7")?;
+    let alloc = rt.alloc();
+    let fits = long_number(alloc, b'0', 65_498, b"7")?;
     assert!(rt; fits.len() == MOST_BYTES);
-    check_whole(&rt, heap, fits.as_slice(), "2 0 - - - -\n")?;
-    let past = long_number(heap, b'0', 65_499, b"7")?;
-    check_whole(&rt, heap, past.as_slice(), "1 71 text - - -\n")
+    check_whole(&rt, alloc, fits.as_slice(), "2 0 - - - -\n")?;
+    let past = long_number(alloc, b'0', 65_499, b"7")?;
+    check_whole(&rt, alloc, past.as_slice(), "1 71 text - - -\n")
 }
 
 #[test]
 fn input_ends_or_stops(rt: HostRuntime) -> Result<(), Fail> {
-    let heap = rt.alloc();
-    let text = long_number(heap, b'1', 9_000, b"")?;
+    let alloc = rt.alloc();
+    let text = long_number(alloc, b'1', 9_000, b"")?;
     let mut source: &[u8] = text.as_slice();
-    let whole = read_input(heap, &mut source)?;
+    let whole = read_input(alloc, &mut source)?;
     assert!(rt; whole.as_slice() == text.as_slice());
-    let more = vec![in heap; b'1'; 70_000]?;
+    let more = vec![in alloc; b'1'; 70_000]?;
     let mut source: &[u8] = more.as_slice();
-    let front = read_input(heap, &mut source)?;
+    let front = read_input(alloc, &mut source)?;
     assert!(rt; front.len() == MOST_BYTES + 1);
     assert!(rt; source.len() == 70_000 - (MOST_BYTES + 1));
     Ok(())
@@ -161,8 +161,8 @@ fn input_ends_or_stops(rt: HostRuntime) -> Result<(), Fail> {
 
 #[test]
 fn numbers_in_order(rt: HostRuntime) -> Result<(), Fail> {
-    let heap = rt.alloc();
-    let add = first_outcome(&rt, heap, b"op session from to limit\nadd 01 2 003 4\n")?;
+    let alloc = rt.alloc();
+    let add = first_outcome(&rt, alloc, b"op session from to limit\nadd 01 2 003 4\n")?;
     let act = Act::Add {
         session: 1,
         from: 2,
@@ -170,7 +170,7 @@ fn numbers_in_order(rt: HostRuntime) -> Result<(), Fail> {
         limit: 4,
     };
     assert_eq!(rt; add, Ok(Request { line: 2, act }));
-    let quote = first_outcome(&rt, heap, b"op session from to limit\nquote 5 6 7 -\n")?;
+    let quote = first_outcome(&rt, alloc, b"op session from to limit\nquote 5 6 7 -\n")?;
     let act = Act::Quote {
         session: 5,
         from: 6,
@@ -182,7 +182,7 @@ fn numbers_in_order(rt: HostRuntime) -> Result<(), Fail> {
 
 #[test]
 fn answered_rows(rt: HostRuntime) -> Result<(), Fail> {
-    let heap = rt.alloc();
+    let alloc = rt.alloc();
     let taken = Row {
         line: 2,
         answer: 0,
@@ -199,7 +199,7 @@ fn answered_rows(rt: HostRuntime) -> Result<(), Fail> {
         wavelength: None,
         moves: None,
     };
-    let found = table(heap, &[taken, refused])?;
+    let found = table(alloc, &[taken, refused])?;
     assert_eq!(rt;
         found.as_str(),
         "line answer layer word wavelength moves\n2 0 - - 0 12\n3 41 session - - -\n"

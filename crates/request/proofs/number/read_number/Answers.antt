@@ -1,26 +1,24 @@
-use Rattle.std.proofs.Common.{◌<◌, length, sym, ◌∙◌, arith, rules}
-use Rattle.std.proofs.lemmas.Bool.{cond-true, cond-false, lt-ltb, le-ltb, eqb-false}
-use Rattle.request.proofs.Reading.{read_empty, turn, stray, done}
+use Rattle.std.proofs.Common.{◌≡◌, ℕ, ◌<◌, true, List, length, sym, ◌∙◌, subst, rules}
+use Rattle.std.specs.Str.{all_ascii_digits}
+use Rattle.std.specs.Str.Parse.{ParsesUnsigned}
+use Rattle.request.proofs.Reading.{all_digits, read_empty, not_digits, not_text, parsed}
+use Rattle.request.proofs.number.read_number.Goals.{then-is_empty-via-then-is_empty, then-is_empty-via-else-is_empty+then-not-is_digits}
 use Rattle.request.proofs.number.read_number.Goals as goal
 
+pub returns-in_default : goal.returns-in_default
+returns-in_default c = sym (not_text c.args.word c.args.bytes.now c.in_default.ensures.cases.0)
+
 pub returns-then-is_empty : goal.returns-then-is_empty
-returns-then-is_empty c = sym (read_empty c.args.word c.args.bytes.now (search rules))
-
-pub returns-then-not-is_ascii_digit : goal.returns-then-not-is_ascii_digit
-returns-then-not-is_ascii_digit c = sym (stray c.args.word c.args.bytes.now c.loop-b.b-index c.loop-b.value c.loop-b-test.true (sym c.if-not-is_ascii_digit.ensures.value) c.loop-b.invariant.1)
-
-pub loop-b-preserved : goal.loop-b-preserved
-loop-b-preserved c = (
-  omega (arith, c.min-value.ensures),
-  turn c.args.word c.args.bytes.now c.loop-b.b-index c.loop-b.value _ c.loop-b-test.true (sym c.if-not-is_ascii_digit.ensures.value) (search rules) c.loop-b.invariant.1,
-)
-
-pub returns-then-value-ge-TOO_LARGE : goal.returns-then-value-ge-TOO_LARGE
-returns-then-value-ge-TOO_LARGE c =
-    let p : 0 < length c.args.bytes.now = omega (arith, eqb-false (length c.args.bytes.now) 0 (sym c.if-is_empty.ensures)) in
-    sym (done c.args.word c.args.bytes.now c.loop-b.b-index c.loop-b.value p c.loop-b-test.false c.loop-b.invariant.1 ∙ cond-false _ _ _ (le-ltb _ _ c.if-value-ge-TOO_LARGE.true))
+returns-then-is_empty c =
+    let e = c.in-Ok.ensures.cases.0 in
+    elim c.then-is_empty.branch [
+      | then-is_empty-via-then-is_empty w ↦ sym (read_empty c.args.word c.args.bytes.now (rw (sym e) (search rules)))
+      | then-is_empty-via-else-is_empty+then-not-is_digits w ↦ sym (not_digits c.args.word c.args.bytes.now (sym (all_digits c.args.bytes.now) ∙ sym w.if-not-is_digits.ensures))
+    ]
 
 pub returns : goal.returns
 returns c =
-    let p : 0 < length c.args.bytes.now = omega (arith, eqb-false (length c.args.bytes.now) 0 (sym c.if-is_empty.ensures)) in
-    sym (done c.args.word c.args.bytes.now c.loop-b.b-index c.loop-b.value p c.loop-b-test.false c.loop-b.invariant.1 ∙ cond-true _ _ _ (lt-ltb _ _ c.if-value-ge-TOO_LARGE.false))
+    let e = c.in-Ok.ensures.cases.0 in
+    let p : 0 < length c.in-Ok.text.now = search rules in
+    let d : all_ascii_digits c.args.bytes.now ≡ true = sym (all_digits c.args.bytes.now) ∙ sym c.if-not-is_digits.ensures in
+    parsed c.args.word c.args.bytes.now c.parse.result c.or.result (subst (λ (ts : List ℕ). 0 < length ts) e p) d (subst (λ (ts : List ℕ). ParsesUnsigned 32 10 ts c.parse.result) e c.parse.ensures.value.0) (search rules)

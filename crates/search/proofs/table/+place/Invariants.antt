@@ -1,5 +1,5 @@
-use Rattle.std.proofs.Common.{◌-◌}
+use Rattle.std.proofs.Common.{length}
 use Rattle.search.proofs.table.+place.Given as goal
 
 abbrev pub decreases-place : goal.decreases-place
-decreases-place l = 16 - l.next
+decreases-place g l = length l.waiting.now

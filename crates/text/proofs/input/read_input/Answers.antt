@@ -1,6 +1,5 @@
 -- The loop ends once the text is one byte too long, or at the reader's end: either way it has what the reader had first.
-use Rattle.std.proofs.Common.{List, ℕ, vec_items, inl, inr, sym, subst, arith, rules}
-use Rattle.std.specs.Io.KnownBytes.{Consumes}
+use Rattle.std.proofs.Common.{vec_items, inl, inr, arith, rules}
 use Rattle.text.proofs.Reading.{read_on, front_read}
 use Rattle.text.proofs.input.read_input.Goals as goal
 use Rattle.text.proofs.input.read_input.Goals.{else-loop-block-test, then-loop-block-test+in_ok-got+then-got-eq0}
@@ -12,6 +11,6 @@ returns-clause-bytes g c =
       | then-loop-block-test+in_ok-got+then-got-eq0 w ↦
           let read = w.in_ok-got.ensures in
           rw w.text-is (front_read _ (g.R.Read.remaining w.read_block.new.source) (vec_items w.read_block.new.text) 65537
-          (subst (λ (l : List ℕ). Consumes (g.R.Read.remaining c.args.source.now) (g.R.Read.remaining w.read_block.new.source) l) (sym read.items) (read_on _ _ _ _ _ c.loop-block.invariant.read read.consumed))
+          (rw read.items (read_on _ _ _ _ _ c.loop-block.invariant.read read.consumed))
           (inr (omega (arith, c.loop-block.invariant.few, w.in_ok-got.ensures.len, w.if-got-eq0.true), read.end w.if-got-eq0.true (search rules))))
     ]

@@ -5,5 +5,5 @@ use Rattle.text.proofs.replies.answer_rows.Given as goal
 
 abbrev pub invariant-loop-entry : goal.invariant-loop-entry
 invariant-loop-entry l =
-    vec_items l.rows ++ rows_for (drop l.entry-index l.entries) (drop l.next (map answer_of l.answers))
+    vec_items l.rows ++ rows_for (drop l.entry-index l.entries) (map answer_of l.left.rest.now)
     ≡ rows_for l.entries (map answer_of l.answers)

@@ -1,24 +1,28 @@
--- The rows are those after the move with the new one behind them; the masks are tallied anew.
-use Rattle.std.proofs.Common.{◌<◌, length, refl, ap, ◌∙◌, arith}
-use Rattle.std.proofs.lemmas.List.{length-set}
+-- The rows are those after the move with the new one behind them; the masks are made anew.
+use Rattle.std.proofs.Common.{◌≡◌, List, ◌∷◌, [], ◌++◌, map, reverse, refl, ap, ◌∙◌}
+use Rattle.reckoning.specs.declared.session.Session.{Session}
+use Rattle.reckoning.specs.Masks.{out_mask, into_mask}
 use Rattle.reckoning.specs.Soundness.{sound_test}
 use Rattle.book.specs.Standing.{parts_of}
 use Rattle.book.specs.Moves.{shift}
-use Rattle.book.proofs.Changes.{entered, over_length}
+use Rattle.book.proofs.Rows.{all_moved, entered}
 use Rattle.book.proofs.book.Book.enter.Goals as goal
 
 pub invariant_of-self : goal.invariant_of-self
 invariant_of-self c =
     let b = c.args.self.now in
-    let f = shift c.args.chain.now c.args.p c.args.q in
-    let h : b.count < length b.rows = omega (arith, c.move_rows.ensures.long) in
-    let l = length-set c.move_rows.new.rows b.count c.args.s ∙ (over_length f b.rows c.move_rows.new.rows b.count c.move_rows.ensures.rows ∙ c.move_rows.ensures.long) in
-    let e = entered f b.rows c.move_rows.new.rows b.count c.args.s h c.move_rows.ensures.rows in
-    record { few = (omega arith, l); sound = ap (sound_test (parts_of b.setting)) e ∙ c.requires.sound; leaving = c.tally.ensures.leaving; entering = c.tally.ensures.entering }
+    let f = shift c.args.chain.now c.args.exchange.p c.args.exchange.q in
+    let e : c.push.new.self.items ≡ map f b.rows.items ++ (c.args.s ∷ []) = c.push.ensures.items ∙ ap (λ (xs : List Session). xs ++ (c.args.s ∷ [])) (all_moved f b.rows.items c.move_rows.new.rows (c.move_rows.ensures ∙ ap (map f) c.deref_mut.ensures.value)) in
+    let L = parts_of b.setting in
+    record {
+      sound = ap (sound_test L) (entered f b.rows.items c.push.new.self.items c.args.s e) ∙ c.requires.sound;
+      leaving = λ a l. c.masks.ensures.leaving a l ∙ ap (λ (xs : List Session). out_mask L (reverse xs) a) c.deref.ensures.0;
+      entering = λ a l. c.masks.ensures.entering a l ∙ ap (λ (xs : List Session). into_mask L (reverse xs) a) c.deref.ensures.0;
+    }
 
 pub returns : goal.returns
 returns c =
     let b = c.args.self.now in
-    let f = shift c.args.chain.now c.args.p c.args.q in
-    let h : b.count < length b.rows = omega (arith, c.move_rows.ensures.long) in
-    record { setting = refl; stands = entered f b.rows c.move_rows.new.rows b.count c.args.s h c.move_rows.ensures.rows }
+    let f = shift c.args.chain.now c.args.exchange.p c.args.exchange.q in
+    let e : c.push.new.self.items ≡ map f b.rows.items ++ (c.args.s ∷ []) = c.push.ensures.items ∙ ap (λ (xs : List Session). xs ++ (c.args.s ∷ [])) (all_moved f b.rows.items c.move_rows.new.rows (c.move_rows.ensures ∙ ap (map f) c.deref_mut.ensures.value)) in
+    record { setting = refl; stands = entered f b.rows.items c.push.new.self.items c.args.s e }

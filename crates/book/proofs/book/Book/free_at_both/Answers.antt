@@ -1,13 +1,11 @@
 -- The lowest bit that is set in neither mask.
-use Rattle.std.proofs.Common.{min, ap, ◌∙◌}
-use Rattle.reckoning.proofs.Loads.{both_lowest}
-use Rattle.reckoning.proofs.Soundness.{sound_from}
-use Rattle.book.specs.Books.{parts_in, standing_in}
+use Rattle.book.proofs.Free.{both_found, both_none}
 use Rattle.book.proofs.book.Book.free_at_both.Goals as goal
 
 pub returns : goal.returns
 returns c =
     let b = c.args.self.now in
-    c.min.ensures
-    ∙ (ap (min b.setting.waves) c.trailing_ones.ensures
-    ∙ both_lowest (parts_in b) (standing_in b) (sound_from (parts_in b) (standing_in b) b.sound) b.setting.small.1 c.args.a c.args.b _ _ (b.leaving c.args.a c.requires.0) (b.entering c.args.b c.requires.1))
+    record {
+      found = both_found b c.args.a c.args.b c.requires.0 c.requires.1 _ _ c.at.ensures c.at-2.ensures c.lowest_free.result c.lowest_free.ensures;
+      none = both_none b c.args.a c.args.b c.requires.0 c.requires.1 _ _ c.at.ensures c.at-2.ensures c.lowest_free.result c.lowest_free.ensures;
+    }

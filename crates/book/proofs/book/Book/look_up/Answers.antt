@@ -1,16 +1,16 @@
--- A search from the newest row down.
-use Rattle.std.proofs.Common.{sym, arith}
-use Rattle.book.specs.Standing.{parts_of}
+-- The newest row that suits is found.
+use Rattle.std.proofs.Common.{◌∙◌, rules, tests}
+use Rattle.std.proofs.lemmas.Iterator.Adapters.{YieldsList-from_rev_slice}
+use Rattle.std.proofs.lemmas.Iterator.Search.{find_from_yields_List}
+use Rattle.book.specs.Books.{parts_in, standing_in}
 use Rattle.book.specs.Keys.{suits}
-use Rattle.book.proofs.Rows.{down_hit, down_pass}
+use Rattle.book.proofs.Rows.{find_first}
 use Rattle.book.proofs.book.Book.look_up.Goals as goal
 
-pub returns-then-suits : goal.returns-then-suits
-returns-then-suits c =
+pub returns : goal.returns
+returns c =
     let b = c.args.self.now in
-    down_hit (suits (parts_of b.setting).group c.args.key) b.rows b.count c.loop-i.i c.loop-i-test.true (omega (arith, b.few)) c.loop-i.invariant (sym c.if-suits.ensures)
-
-pub loop-i-preserved : goal.loop-i-preserved
-loop-i-preserved c =
-    let b = c.args.self.now in
-    down_pass (suits (parts_of b.setting).group c.args.key) b.rows b.count c.loop-i.i c.loop-i-test.true (omega (arith, b.few)) c.loop-i.invariant (sym c.if-suits.ensures)
+    let p = suits (parts_in b).group c.args.key in
+    c.copied.ensures
+    ∙ (find_from_yields_List p _ _ c.find.result c.find.ensures.ran (YieldsList-from_rev_slice b.rows.items (cc)) (λ x b q k. search (rules, tests))
+    ∙ find_first p (standing_in b))

@@ -1,18 +1,16 @@
 -- The session is found, its lightpath is told, and it goes.
-use Rattle.std.proofs.Common.{◌≤◌, [], length, Result, refl, ap, ◌∙◌, subst, arith}
-use Rattle.plant.specs.declared.slip.Lightpath.{Lightpath}
+use Rattle.std.proofs.Common.{◌≤◌, length, Result, refl, ap, subst, arith}
+use Rattle.plant.specs.declared.lightpath.Lightpath.{Lightpath}
 use Rattle.reckoning.specs.declared.order.Order.{Order}
-use Rattle.reckoning.specs.declared.order.Kind.TheVariants.{Darken}
 use Rattle.reckoning.specs.Calls.{release}
 use Rattle.reckoning.specs.Questions.{Room}
-use Rattle.reckoning.specs.Sheets.{order}
+use Rattle.sheet.specs.Pages.{page_of}
+use Rattle.sheet.specs.Sheets.{Page}
 use Rattle.book.specs.declared.refusal.CallRefusal.{CallRefusal}
 use Rattle.book.specs.declared.refusal.CallRefusal.TheVariants.{OrderRoom}
 use Rattle.book.specs.Books.{parts_in, standing_in}
 use Rattle.book.specs.Calls.{Booked, darkens, release_answer, told}
-use Rattle.book.specs.Pages.{page_of}
 use Rattle.book.proofs.Asking.{handed_err, passed_ask}
-use Rattle.book.proofs.Ordering.{last_put}
 use Rattle.book.proofs.Releasing.{refused_booked, release_refused, not_borne, released_booked}
 use Rattle.book.proofs.book.Book.release.Goals as goal
 
@@ -20,8 +18,8 @@ pub returns-in_err-s : goal.returns-in_err-s
 returns-in_err-s c =
     let b = c.args.self.now in
     let x = c.in_err-s.field-0.0 in
-    let o = page_of c.args.orders.now in
-    let room : Room = record { orders = length c.args.orders.now.places.now; rows = 0 } in
+    let o = (page_of c.args.orders.now) in
+    let room : Room = record { orders = length (page_of c.args.orders.now).places; rows = 0 } in
     record {
       same = refl;
       booked = λ walk.
@@ -33,16 +31,12 @@ returns-in_err-s c =
 pub returns : goal.returns
 returns c =
     let b = c.args.self.now in
-    let g = (parts_in b).group in
     let s = c.in_ok-s.s in
-    let room : Room = record { orders = length c.args.orders.now.places.now; rows = 0 } in
+    let room : Room = record { orders = length (page_of c.args.orders.now).places; rows = 0 } in
     let l : 1 ≤ room.orders = omega (arith, passed_ask 1 c.room.result OrderRoom c.in_ok-ask.ensures, c.room.ensures) in
-    let o = c.order-order.result in
     record {
-      same = c.put.ensures.same ∙ c.clear.ensures.same;
+      same = ap (λ (s : Page Order). s.memory) c.write_darkening.ensures;
       booked = λ walk.
-          released_booked room walk c.args.number b c.leave.new.self (page_of c.args.orders.now) (page_of c.put.new.self) s (record { wavelength = o.wavelength; source = o.source; destination = o.destination })
-          c.in_ok-s.ensures.answer l l c.in_ok-s.ensures.found c.leave.ensures.setting c.leave.ensures.stands
-          (ap (λ (x : Order). record { wavelength = x.wavelength; source = x.source; destination = x.destination }) c.order-order.ensures)
-          (last_put c.args.orders.now.places.now 0 [] (order g Darken s) o c.clear.new.self.count c.clear.new.self.places.now (λ i. record { count = c.clear.ensures.count i; places = c.clear.ensures.places i }) (omega (arith, l)) c.order-order.ensures _ _ c.put.ensures.count c.put.ensures.places c.args.orders.now.count);
+          released_booked room walk c.args.number b c.leave.new.self (page_of c.args.orders.now) (page_of c.write_darkening.new.orders) s c.lightpath-path.result
+          c.in_ok-s.ensures.answer l l c.in_ok-s.ensures.found c.leave.ensures.setting c.leave.ensures.stands c.lightpath-path.ensures c.write_darkening.ensures;
     }

@@ -1,39 +1,44 @@
--- The last goes dark; a turn darkens one and lights the one behind it; the first is lit.
-use Rattle.std.proofs.Common.{◌<◌, ◌≤◌, length, refl, ap, ◌∙◌, arith}
+-- Each turn darkens the next session and lights the one behind it.
+use Rattle.std.proofs.Common.{◌≡◌, List, [], ◌∷◌, ◌++◌, reverse, length, refl, sym, ap, ◌∙◌, arith}
+use mathlib.Core.List.{reverse-append}
+use Rattle.std.proofs.lemmas.List.{length-reverse}
+use Rattle.reckoning.specs.declared.session.Session.{Session}
+use Rattle.reckoning.specs.declared.order.Order.{Order}
 use Rattle.reckoning.specs.declared.order.Kind.TheVariants.{Light}
-use Rattle.reckoning.specs.Sheets.{order}
+use Rattle.reckoning.specs.Sheets.{order, chain_orders}
+use Rattle.sheet.specs.Pages.{page_of}
+use Rattle.sheet.specs.Sheets.{with_record}
+use Rattle.reckoning.proofs.Admissions.{chain_length}
 use Rattle.book.specs.Standing.{parts_of}
-use Rattle.book.proofs.Ordering.{started, turned, ended, none_written}
+use Rattle.book.proofs.Ordering.{started, turned, ended}
 use Rattle.book.proofs.setting.Setting.write_change.Goals as goal
 
-pub loop-i-init : goal.loop-i-init
-loop-i-init c = (omega arith, refl, λ ps h. h)
+backwards : (xs ys : List Session) (x : Session) → xs ≡ ys ++ x ∷ [] → reverse xs ≡ x ∷ reverse ys
+backwards xs ys x e = ap reverse e ∙ reverse-append ys (x ∷ [])
 
-pub loop-i-preserved : goal.loop-i-preserved
-loop-i-preserved c =
+none_behind : (xs : List Session) → length xs ≡ 0 → reverse xs ≡ []
+none_behind [] e = refl
+none_behind (x ∷ xs) e = absurd (omega arith)
+
+pub loop-next-init : goal.loop-next-init
+loop-next-init c =
+    let rest : c.into_iter-next-iterator.result.iter.rest.now ≡ c.in-Some.before.now = ap (λ r. r.iter.rest.now) c.into_iter-next-iterator.ensures.into_iter_gives ∙ (ap (λ r. r.rest.now) c.rev-next-items.ensures.source ∙ c.iter.ensures.rest) in
+    started (parts_of c.args.self.now).group c.args.exchange.p c.args.exchange.q (page_of c.args.orders.now) c.args.chain.now c.in-Some.last.now (reverse c.into_iter-next-iterator.result.iter.rest.now)
+    (backwards c.args.chain.now c.in-Some.before.now c.in-Some.last.now c.in-Some.ensures.cases.0 ∙ ap (λ (xs : List Session). c.in-Some.last.now ∷ reverse xs) (sym rest))
+    c.requires (page_of c.clear.new.self) (page_of c.put.new.self) c.clear.ensures (c.put.ensures.page ∙ ap (λ (o : Order). with_record (page_of c.clear.new.self) o) c.order.ensures)
+
+pub loop-next-preserved : goal.loop-next-preserved
+loop-next-preserved c =
     let g = (parts_of c.args.self.now).group in
-    let lo : 0 < c.loop-i.i = omega arith in
-    let hi : c.loop-i.i ≤ length c.args.chain.now = omega arith in (
-      omega arith,
-      c.put-in-loop-i-2.ensures.same ∙ (c.put-in-loop-i.ensures.same ∙ c.loop-i.invariant.1),
-      λ ps h.
-          turned g c.args.p c.args.q c.args.chain.now ps _ _ c.loop-i.i c.loop-i.held (c.loop-i.invariant.2 ps h) lo hi _ _
-          c.order-in-loop-i.ensures (c.order-in-loop-i-2.ensures ∙ ap (order g Light) c.exchanged.ensures) _ _ c.put-in-loop-i.ensures.count c.put-in-loop-i.ensures.places _ _ c.put-in-loop-i-2.ensures.count c.put-in-loop-i-2.ensures.places,
-    )
+    let es = reverse c.args.chain.now in
+    turned g c.args.exchange.p c.args.exchange.q (page_of c.args.orders.now) (chain_orders g c.args.exchange.p c.args.exchange.q es) (omega (arith, c.requires, chain_length g c.args.exchange.p c.args.exchange.q es, length-reverse c.args.chain.now)) (page_of c.loop-next.orders) c.loop-next.dark
+    (reverse c.loop-next.next-iterator.iter.rest.now) c.in-Some-next.next.now (reverse c.next.new.self.iter.rest.now) c.loop-next.invariant (backwards c.loop-next.next-iterator.iter.rest.now c.next.new.self.iter.rest.now c.in-Some-next.next.now c.in-Some-next.ensures.steps)
+    c.order-in-loop-next.result c.order-in-loop-next-2.result c.order-in-loop-next.ensures (c.order-in-loop-next-2.ensures ∙ ap (λ (s : Session). order g Light s) c.moved.ensures) (page_of c.put-in-loop-next.new.self) (page_of c.put-in-loop-next-2.new.self) c.put-in-loop-next.ensures.page c.put-in-loop-next-2.ensures.page
 
 pub returns : goal.returns
 returns c =
     let g = (parts_of c.args.self.now).group in
-    let es = c.args.chain.now in
-    let old = c.args.orders.now.places.now in
-    let first = started g c.args.p c.args.q es old c.args.orders.now.count c.order.result (omega arith) c.requires.empty c.requires.room c.order.ensures _ _ c.put.ensures.count c.put.ensures.places in
-    record {
-      same = c.put-2.ensures.same ∙ (c.loop-i.invariant.1 ∙ c.put.ensures.same);
-      page =
-          ended g c.args.p c.args.q es old _ _ c.loop-i.i c.loop-i.held (c.loop-i.invariant.2 old first) c.loop-i-test.false _
-          (c.order-2.ensures ∙ ap (order g Light) c.exchanged-2.ensures) c.args.orders.now.count _ _ c.put-2.ensures.count c.put-2.ensures.places;
-    }
-
-pub returns-then-k-eq0 : goal.returns-then-k-eq0
-returns-then-k-eq0 c =
-    record { same = refl; page = none_written (parts_of c.args.self.now).group c.args.p c.args.q c.args.chain.now c.args.orders.now.places.now c.args.orders.now.count c.if-k-eq0.true c.requires.empty }
+    let es = reverse c.args.chain.now in
+    ended g c.args.exchange.p c.args.exchange.q (page_of c.args.orders.now) (chain_orders g c.args.exchange.p c.args.exchange.q es) (omega (arith, c.requires, chain_length g c.args.exchange.p c.args.exchange.q es, length-reverse c.args.chain.now)) (page_of c.loop-next.orders) c.loop-next.dark
+    (reverse c.loop-next.next-iterator.iter.rest.now) c.loop-next.invariant (none_behind c.loop-next.next-iterator.iter.rest.now c.in-None.ensures.steps.0)
+    c.order-2.result (c.order-2.ensures ∙ ap (λ (s : Session). order g Light s) c.moved-2.ensures) (page_of c.put-2.new.self) c.put-2.ensures.page

@@ -1,15 +1,11 @@
-use Rattle.std.proofs.Common.{◌≡◌, ◌<◌, List, reverse, length}
-use Rattle.reckoning.specs.declared.order.Order.{Order}
+use Rattle.std.proofs.Common.{reverse}
 use Rattle.reckoning.specs.Sheets.{chain_orders}
-use Rattle.sheet.proofs.Writing.{Left}
+use Rattle.sheet.specs.Pages.{page_of}
 use Rattle.book.specs.Standing.{parts_of}
-use Rattle.book.proofs.Ordering.{onward}
+use Rattle.book.proofs.Ordering.{Turning}
 use Rattle.book.proofs.setting.Setting.write_change.Given as goal
 
-abbrev pub invariant-loop-i : goal.invariant-loop-i
-invariant-loop-i l =
+abbrev pub invariant-loop-next : goal.invariant-loop-next
+invariant-loop-next l =
     let g = (parts_of l.self).group in
-    (l.i < length l.chain)
-    × (l.orders.places.ghost_name ≡ l.initial.orders.places.ghost_name)
-    × ((ps : List Order) → Left ps l.initial.orders.places.now l.initial.orders.count (chain_orders g l.p l.q (reverse l.chain)) (onward g l.p l.q l.chain l.initial.i l.initial.held)
-    → Left ps l.orders.places.now l.orders.count (chain_orders g l.p l.q (reverse l.chain)) (onward g l.p l.q l.chain l.i l.held))
+    Turning g l.exchange.p l.exchange.q (chain_orders g l.exchange.p l.exchange.q (reverse l.fn.chain)) (page_of l.fn.orders) (page_of l.orders) l.dark (reverse l.next-iterator.iter.rest.now)

@@ -18,5 +18,5 @@ returns g c =
       none = c.new-book.ensures.none;
       start = λ dark orders rows walk.
           subst (λ (L : Parts). Start n L (moment g.P.Plant k orders rows walk)) (sym c.new-book.ensures.parts)
-          (start_made n (g.P.Plant.state c.args.plant) (moment g.P.Plant k orders rows walk) c.new-book.ensures.none refl dark c.new-book.ensures.proper);
+          (start_made n (g.P.Plant.state c.args.plant) (moment g.P.Plant k orders rows walk) c.new-book.ensures.none refl dark (g.met.P.Plant.proper c.args.plant));
     }

@@ -3,8 +3,8 @@ use Rattle.std.proofs.Common.{length, sym}
 use Rattle.reckoning.specs.declared.call.Call.TheVariants.{List as Rows}
 use Rattle.reckoning.proofs.Runs.{still_list}
 use Rattle.reckoning.specs.Questions.{Room}
+use Rattle.sheet.specs.Pages.{page_of}
 use Rattle.book.specs.Books.{parts_in, standing_in}
-use Rattle.book.specs.Pages.{page_of}
 use Rattle.controller.proofs.Replies.{list_walk}
 use Rattle.controller.proofs.Serving.{looked}
 use Rattle.controller.proofs.controller.Controller.list_booked.Goals as goal
@@ -12,7 +12,7 @@ use Rattle.controller.proofs.controller.Controller.list_booked.Goals as goal
 pub returns : goal.returns
 returns g c =
     let k = c.args.self.now in
-    let s = page_of c.args.rows.now in
+    let s = (page_of c.args.rows.now) in
     let L = parts_in k.book in
     let ss = standing_in k.book in
     record {

@@ -2,7 +2,7 @@
 use Rattle.std.proofs.Common.{List, length, Option, sym, refl, ap}
 use Rattle.reckoning.specs.declared.session.Session.{Session}
 use Rattle.reckoning.specs.declared.call.Call.TheVariants.{Where}
-use Rattle.reckoning.specs.Runs.{rewritten}
+use Rattle.sheet.specs.Sheets.{rewritten}
 use Rattle.reckoning.proofs.Runs.{still_locate}
 use Rattle.reckoning.specs.Questions.{Room}
 use Rattle.book.specs.Books.{parts_in, standing_in}

@@ -2,10 +2,10 @@
 use Rattle.std.proofs.Common.{ℕ, [], length, Result, sym, refl, subst}
 use Rattle.reckoning.specs.declared.call.Call.TheVariants.{Release}
 use Rattle.reckoning.specs.Questions.{Room}
+use Rattle.sheet.specs.Pages.{page_of}
 use Rattle.book.specs.declared.refusal.CallRefusal.{CallRefusal}
 use Rattle.book.specs.Books.{parts_in, standing_in}
 use Rattle.book.specs.Calls.{darkens}
-use Rattle.book.specs.Pages.{page_of}
 use Rattle.book.proofs.Asking.{handed_err}
 use Rattle.controller.specs.declared.controller.Controller.{Controller}
 use Rattle.controller.specs.Service.{Serves, release_answer, moment}
@@ -17,8 +17,8 @@ pub returns-in_err-released : goal.returns-in_err-released
 returns-in_err-released g c =
     let k = c.args.self.now in
     let k' : Controller g.row.L.Denot g.row.P.Denot = record { layout = k.layout; plant = k.plant; book = c.release.new.self } in
-    let o = page_of c.args.orders.now in
-    let o' = page_of c.release.new.orders in
+    let o = (page_of c.args.orders.now) in
+    let o' = (page_of c.release.new.orders) in
     let e = c.in_err-released.field-0.0 in
     let call = Release c.args.number in
     record {
@@ -35,8 +35,8 @@ pub returns : goal.returns
 returns g c =
     let k = c.args.self.now in
     let k' : Controller g.row.L.Denot g.row.P.Denot = record { layout = k.layout; plant = c.darken.new.plant; book = c.release.new.self } in
-    let o = page_of c.args.orders.now in
-    let o' = page_of c.release.new.orders in
+    let o = (page_of c.args.orders.now) in
+    let o' = (page_of c.release.new.orders) in
     let call = Release c.args.number in
     record {
       place = c.release.ensures.same;

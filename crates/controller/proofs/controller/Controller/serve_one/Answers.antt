@@ -1,95 +1,45 @@
 -- Each call in turn.
-use Rattle.std.proofs.Common.{refl}
-use Rattle.book.specs.Pages.{page_of}
-use Rattle.controller.proofs.Serving.{as_call, same_as}
+use Rattle.sheet.specs.Pages.{page_of}
+use Rattle.book.proofs.Asking.{handed_err}
+use Rattle.controller.proofs.Serving.{as_call, as_refused}
 use Rattle.controller.proofs.controller.Controller.serve_one.Goals as goal
 
-pub returns-in-Ok : goal.returns-in-Ok
-returns-in-Ok g c =
-    record {
-      order_place = c.admit.ensures.place;
-      row_place = refl;
-      same = c.admit.ensures.same;
-      serves = as_call g.L.Layout c.args.self.now c.args.call _ _ _ _ c.in-Admit.is (c.in-Ok.ensures.serves (page_of c.args.rows.now));
-    }
+pub returns-in_err-wavelength-in-Admit-clause-serves : goal.returns-in_err-wavelength-in-Admit-clause-serves
+returns-in_err-wavelength-in-Admit-clause-serves g c =
+    let e = c.in_err-wavelength-in-Admit.field-0.0 in
+    as_refused g.L.Layout c.args.self.now c.args.call _ e c.from_residual.result _ _ (handed_err c.from_residual.result e c.from_residual.ensures.1) c.in-Admit.is (c.in_err-wavelength-in-Admit.ensures.serves (page_of c.args.rows.now))
 
-pub returns-in-Err : goal.returns-in-Err
-returns-in-Err g c =
-    record {
-      order_place = c.admit.ensures.place;
-      row_place = refl;
-      same = c.admit.ensures.same;
-      serves = as_call g.L.Layout c.args.self.now c.args.call _ _ _ _ c.in-Admit.is (c.in-Err.ensures.serves (page_of c.args.rows.now));
-    }
+pub returns-in_ok-wavelength-in-Admit-clause-serves : goal.returns-in_ok-wavelength-in-Admit-clause-serves
+returns-in_ok-wavelength-in-Admit-clause-serves g c = as_call g.L.Layout c.args.self.now c.args.call _ _ _ _ c.in-Admit.is (c.in_ok-wavelength-in-Admit.ensures.serves (page_of c.args.rows.now))
 
-pub returns-in-Ok-release : goal.returns-in-Ok-release
-returns-in-Ok-release g c =
-    record {
-      order_place = c.release.ensures.place;
-      row_place = refl;
-      same = c.release.ensures.same;
-      serves = as_call g.L.Layout c.args.self.now c.args.call _ _ _ _ c.in-Release.is (c.in-Ok-release.ensures.serves (page_of c.args.rows.now) c.args.walk.now);
-    }
+pub returns-in_err-wavelength-in-Release-clause-serves : goal.returns-in_err-wavelength-in-Release-clause-serves
+returns-in_err-wavelength-in-Release-clause-serves g c =
+    let e = c.in_err-wavelength-in-Release.field-0.0 in
+    as_refused g.L.Layout c.args.self.now c.args.call _ e c.from_residual-in_err-wavelength-in-Release.result _ _ (handed_err c.from_residual-in_err-wavelength-in-Release.result e c.from_residual-in_err-wavelength-in-Release.ensures.1) c.in-Release.is (c.in_err-wavelength-in-Release.ensures.serves (page_of c.args.rows.now) c.args.walk.now)
 
-pub returns-in-Err-release : goal.returns-in-Err-release
-returns-in-Err-release g c =
-    record {
-      order_place = c.release.ensures.place;
-      row_place = refl;
-      same = c.release.ensures.same;
-      serves = as_call g.L.Layout c.args.self.now c.args.call _ _ _ _ c.in-Release.is (c.in-Err-release.ensures.serves (page_of c.args.rows.now) c.args.walk.now);
-    }
+pub returns-in_ok-wavelength-in-Release-clause-serves : goal.returns-in_ok-wavelength-in-Release-clause-serves
+returns-in_ok-wavelength-in-Release-clause-serves g c = as_call g.L.Layout c.args.self.now c.args.call _ _ _ _ c.in-Release.is (c.in_ok-wavelength-in-Release.ensures.serves (page_of c.args.rows.now) c.args.walk.now)
 
-pub returns-in-Ok-quote : goal.returns-in-Ok-quote
-returns-in-Ok-quote g c =
-    record {
-      order_place = refl;
-      row_place = refl;
-      same = same_as g.P.Plant c.args.self.now;
-      serves = as_call g.L.Layout c.args.self.now c.args.call _ _ _ _ c.in-Quote.is (c.in-Ok-quote.ensures (page_of c.args.orders.now) (page_of c.args.rows.now));
-    }
+pub returns-in_err-wavelength-in-Quote-clause-serves : goal.returns-in_err-wavelength-in-Quote-clause-serves
+returns-in_err-wavelength-in-Quote-clause-serves g c =
+    let e = c.in_err-wavelength-in-Quote.field-0.0 in
+    as_refused g.L.Layout c.args.self.now c.args.call _ e c.from_residual-in_err-wavelength-in-Quote.result _ _ (handed_err c.from_residual-in_err-wavelength-in-Quote.result e c.from_residual-in_err-wavelength-in-Quote.ensures.1) c.in-Quote.is (c.in_err-wavelength-in-Quote.ensures (page_of c.args.orders.now) (page_of c.args.rows.now))
 
-pub returns-in-Err-quote : goal.returns-in-Err-quote
-returns-in-Err-quote g c =
-    record {
-      order_place = refl;
-      row_place = refl;
-      same = same_as g.P.Plant c.args.self.now;
-      serves = as_call g.L.Layout c.args.self.now c.args.call _ _ _ _ c.in-Quote.is (c.in-Err-quote.ensures (page_of c.args.orders.now) (page_of c.args.rows.now));
-    }
+pub returns-in_ok-wavelength-in-Quote-clause-serves : goal.returns-in_ok-wavelength-in-Quote-clause-serves
+returns-in_ok-wavelength-in-Quote-clause-serves g c = as_call g.L.Layout c.args.self.now c.args.call _ _ _ _ c.in-Quote.is (c.in_ok-wavelength-in-Quote.ensures (page_of c.args.orders.now) (page_of c.args.rows.now))
 
-pub returns-in-Ok-locate : goal.returns-in-Ok-locate
-returns-in-Ok-locate g c =
-    record {
-      order_place = refl;
-      row_place = refl;
-      same = same_as g.P.Plant c.args.self.now;
-      serves = as_call g.L.Layout c.args.self.now c.args.call _ _ _ _ c.in-Where.is (c.in-Ok-locate.ensures.serves (page_of c.args.orders.now) (page_of c.args.rows.now) c.args.walk.now);
-    }
+pub returns-in_err-s-in-Where-clause-serves : goal.returns-in_err-s-in-Where-clause-serves
+returns-in_err-s-in-Where-clause-serves g c =
+    let e = c.in_err-s-in-Where.field-0.0 in
+    as_refused g.L.Layout c.args.self.now c.args.call _ e c.from_residual-in_err-s-in-Where.result _ _ (handed_err c.from_residual-in_err-s-in-Where.result e c.from_residual-in_err-s-in-Where.ensures.1) c.in-Where.is (c.in_err-s-in-Where.ensures.serves (page_of c.args.orders.now) (page_of c.args.rows.now) c.args.walk.now)
 
-pub returns-in-Err-locate : goal.returns-in-Err-locate
-returns-in-Err-locate g c =
-    record {
-      order_place = refl;
-      row_place = refl;
-      same = same_as g.P.Plant c.args.self.now;
-      serves = as_call g.L.Layout c.args.self.now c.args.call _ _ _ _ c.in-Where.is (c.in-Err-locate.ensures.serves (page_of c.args.orders.now) (page_of c.args.rows.now) c.args.walk.now);
-    }
+pub returns-in_ok-s-in-Where-clause-serves : goal.returns-in_ok-s-in-Where-clause-serves
+returns-in_ok-s-in-Where-clause-serves g c = as_call g.L.Layout c.args.self.now c.args.call _ _ _ _ c.in-Where.is (c.in_ok-s-in-Where.ensures.serves (page_of c.args.orders.now) (page_of c.args.rows.now) c.args.walk.now)
 
-pub returns-in-Ok-list : goal.returns-in-Ok-list
-returns-in-Ok-list g c =
-    record {
-      order_place = refl;
-      row_place = c.list.ensures.place;
-      same = same_as g.P.Plant c.args.self.now;
-      serves = as_call g.L.Layout c.args.self.now c.args.call _ _ _ _ c.in-List.is (c.in-Ok-list.ensures.serves (page_of c.args.orders.now) c.args.walk.now);
-    }
+pub returns-in_err-rows-in-List-clause-serves : goal.returns-in_err-rows-in-List-clause-serves
+returns-in_err-rows-in-List-clause-serves g c =
+    let e = c.in_err-rows-in-List.field-0.0 in
+    as_refused g.L.Layout c.args.self.now c.args.call _ e c.from_residual-in_err-rows-in-List.result _ _ (handed_err c.from_residual-in_err-rows-in-List.result e c.from_residual-in_err-rows-in-List.ensures.1) c.in-List.is (c.in_err-rows-in-List.ensures.serves (page_of c.args.orders.now) c.args.walk.now)
 
-pub returns-in-Err-list : goal.returns-in-Err-list
-returns-in-Err-list g c =
-    record {
-      order_place = refl;
-      row_place = c.list.ensures.place;
-      same = same_as g.P.Plant c.args.self.now;
-      serves = as_call g.L.Layout c.args.self.now c.args.call _ _ _ _ c.in-List.is (c.in-Err-list.ensures.serves (page_of c.args.orders.now) c.args.walk.now);
-    }
+pub returns-in_ok-rows-in-List-clause-serves : goal.returns-in_ok-rows-in-List-clause-serves
+returns-in_ok-rows-in-List-clause-serves g c = as_call g.L.Layout c.args.self.now c.args.call _ _ _ _ c.in-List.is (c.in_ok-rows-in-List.ensures.serves (page_of c.args.orders.now) c.args.walk.now)
