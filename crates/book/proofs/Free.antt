@@ -2,6 +2,7 @@
 use Rattle.std.proofs.Common.{◌≡◌, ℕ, ◌<◌, ◌≤◌, min, Bool, cond, not, ◌&&◌, slice_index, count_ones, Some, None, IfSome, IfNone, Option, sym, refl, ap, ◌∙◌, inl, inr, arith}
 use lib.Bits.{bit_or}
 use Rattle.std.specs.Int.{w32, trailing_ones}
+use Rattle.std.proofs.lemmas.Option.{same_Some, none-some}
 use Rattle.std.proofs.lemmas.Bool.{cases_lt, lt-ltb, le-ltb}
 use Rattle.reckoning.specs.Lists.{lowest}
 use Rattle.reckoning.specs.Standing.{lit_out, lit_into, up_load, down_load}
@@ -11,12 +12,6 @@ use Rattle.reckoning.proofs.Soundness.{sound_from}
 use Rattle.book.specs.declared.book.Book.{Book}
 use Rattle.book.specs.Books.{parts_in, standing_in}
 use Rattle.book.specs.Moves.{found_below}
-
-some_same : {x y : ℕ} → ◌≡◌ {A = Option ℕ} (Some x) (Some y) → x ≡ y
-some_same e = cc
-
-none_some : {x : ℕ} → ◌≡◌ {A = Option ℕ} None (Some x) → ⊥
-none_some e = cc
 
 some_none : {x : ℕ} → ◌≡◌ {A = Option ℕ} (Some x) None → ⊥
 some_none e = cc
@@ -31,8 +26,8 @@ module _ (W t l : ℕ) (same : min W t ≡ l) where
   pub found_some : (w : ℕ) → found_below W t ≡ Some w → (w ≡ l) × (w < W)
   found_some w h =
       elim (cases_lt t W) [
-        | inl m ↦ let e : w ≡ t = sym (some_same (sym (ap (λ (b : Bool). cond b (Some t) None) (lt-ltb t W m)) ∙ h)) in (omega (arith, same), omega arith)
-        | inr m ↦ absurd (none_some (sym (ap (λ (b : Bool). cond b (Some t) None) (le-ltb t W m)) ∙ h))
+        | inl m ↦ let e : w ≡ t = sym (same_Some t w (sym (ap (λ (b : Bool). cond b (Some t) None) (lt-ltb t W m)) ∙ h)) in (omega (arith, same), omega arith)
+        | inr m ↦ absurd (none-some w (sym (ap (λ (b : Bool). cond b (Some t) None) (le-ltb t W m)) ∙ h))
       ]
 
   pub found_none : found_below W t ≡ None → W ≤ l
@@ -73,7 +68,7 @@ into_found b x l h = found_low b.setting.waves _ _ (into_is b x l _ refl) (lowes
 
 -- the one found is that one
 pub unwrapped : (o : Option ℕ) (p l : ℕ) → o ≡ Some l → o ≡ Some p → p ≡ l
-unwrapped o p l e d = some_same (sym d ∙ e)
+unwrapped o p l e d = same_Some p l (sym d ∙ e)
 
 -- out of x and into y, whose masks are m and n
 module _ (b : Book) (x y : ℕ) (lx : x < 32) (ly : y < 32) (m n : ℕ) (hm : m ≡ slice_index b.outward.lit x) (hn : n ≡ slice_index b.inward.lit y) where

@@ -7,11 +7,7 @@ use Rattle.plant.specs.declared.Plant.{Ghosts as PlantGhosts}
 use Rattle.reckoning.specs.declared.call.Call.{Call}
 use Rattle.reckoning.specs.Calls.{Answer}
 use Rattle.reckoning.specs.Parts.{Parts}
-use Rattle.reckoning.specs.declared.order.Order.{Order}
-use Rattle.reckoning.specs.declared.session.Session.{Session}
-use Rattle.reckoning.specs.Runs.{Moment, reply_in, Answered, Run}
-use Rattle.sheet.specs.Sheets.{Page}
-use Rattle.sheet.proofs.Writing.{same_memory}
+use Rattle.reckoning.specs.Runs.{Moment, Answered, Run}
 use Rattle.reckoning.proofs.LawOfRuns.{law_of_runs}
 use Rattle.reckoning.proofs.Serving.{run_nothing, run_more, run_replies}
 use Rattle.book.specs.declared.refusal.CallRefusal.{CallRefusal}
@@ -41,22 +37,13 @@ pub same_on : {N P : Type 0} (D : PlantGhosts P) (c c' c'' : Controller N P) →
 same_on D c c' c'' s t = record { layout = t.layout ∙ s.layout; setting = t.setting ∙ s.setting; kept = t.kept ∙ s.kept }
 
 pub all_served : {N P : Type 0} (E : LayoutGhosts N) (c : Controller N P) → Grouped (E.network c.layout) → Separate (E.network c.layout) → Meeting (E.network c.layout) → (calls : List Call) (answers : List Answer) (i : ℕ) (m m' : Moment) → length calls ≤ i
-    → (m'.orders.memory ≡ m.orders.memory) × (m'.rows.memory ≡ m.rows.memory) → Run (Answered (parts_in c.book)) (take i calls) answers m m' → Served E c calls answers m m'
-all_served E c grouped separate meeting calls answers i m m' h lent part =
+    → Run (Answered (parts_in c.book)) (take i calls) answers m m' → Served E c calls answers m m'
+all_served E c grouped separate meeting calls answers i m m' h part =
     let run = subst (λ (cs : List Call). Run (Answered (parts_in c.book)) cs answers m m') (take_all i calls h) part in
     let told = run_replies (parts_in c.book) calls answers m m' run in
     record {
       answered = run;
       replied = (told.0, told.1);
-      lent = lent;
       lawful = λ s. law_of_runs (E.network c.layout) grouped separate (parts_in c.book) calls answers m m' s run;
       meeting = meeting;
     }
-
--- a call leaves the sheets in the memory where they were
-pub still_lent : (L : Parts) (call : Call) (a : Answer) (m m' m'' : Moment) → Answered L call a m' m'' → (m'.orders.memory ≡ m.orders.memory) × (m'.rows.memory ≡ m.rows.memory) → (m''.orders.memory ≡ m.orders.memory) × (m''.rows.memory ≡ m.rows.memory)
-still_lent L call a m m' m'' x h =
-    let y = reply_in L m' call in (
-      ap (λ (o : Page Order). o.memory) x.orders ∙ (same_memory y.orders m'.orders ∙ h.0),
-      ap (λ (s : Page Session). s.memory) x.rows ∙ (same_memory y.rows m'.rows ∙ h.1),
-    )

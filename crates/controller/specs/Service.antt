@@ -99,8 +99,6 @@ pub record Served {N P : Type 0} (E : LayoutGhosts N) (c : Controller N P) (call
   pub replied :
       (answers ≡ map (λ y. y.answer) (replies (parts_in c.book) (room_in m) m.standing m.walk calls))
       × (m'.standing ≡ standing_after m.standing (replies (parts_in c.book) (room_in m) m.standing m.walk calls))
-  -- the sheets lie in the memory that they were lent
-  pub lent : (m'.orders.memory ≡ m.orders.memory) × (m'.rows.memory ≡ m.rows.memory)
   -- from a sound start the whole law of runs
   pub lawful : Start (E.network c.layout) (parts_in c.book) m → Lawful (E.network c.layout) (parts_in c.book) calls answers m m'
   -- sessions with a common end group meet in some fibre, as one half of "refused exactly when no table exists" asks

@@ -1,5 +1,5 @@
 -- A list is written into a sheet record by record.
-use Rattle.std.proofs.Common.{◌≡◌, ◌+◌, ◌<◌, List, [], ◌∷◌, ◌++◌, length, drop, set, nat_lt, Some, None, Option, ap, refl, sym, ◌∙◌, arith}
+use Rattle.std.proofs.Common.{◌≡◌, ◌+◌, ◌<◌, List, [], ◌∷◌, ◌++◌, length, drop, set, nat_lt, Some, ap, refl, sym, ◌∙◌, arith}
 use Rattle.std.proofs.lemmas.List.{length-append, length-drop}
 use Rattle.std.proofs.lemmas.Bool.{lt-ltb, cond-true}
 use Rattle.sheet.specs.Sheets.{Page, rewritten, with_record}
@@ -20,8 +20,3 @@ module _ {X : Type 0} (x : X) where
       let more : Page X = record { memory = s.memory; count = length xs + 1; places = set ps (length xs) x } in
       cond-true (nat_lt (length xs) (length ps)) more (rewritten (Some xs) s) (lt-ltb (length xs) (length ps) (omega (arith, h, long)))
       ∙ (λ i. record { memory = s.memory; count = one i; places = set_behind xs s.places h i })
-
--- what is written anew lies in the same memory
-pub same_memory : {X : Type 0} (o : Option (List X)) (s : Page X) → (rewritten o s).memory ≡ s.memory
-same_memory None s = refl
-same_memory (Some xs) s = refl

@@ -13,6 +13,7 @@ invariant-loop-call g l =
       same : Same D start.self l.self;
       counted : vec_len l.answers ≡ l.call-index;
       room : length l.calls ≤ vec_capacity l.answers;
-      lent : ((page_of l.orders).memory ≡ (page_of start.orders).memory) × ((page_of l.rows).memory ≡ (page_of start.rows).memory);
+      order_place : (page_of l.orders).memory ≡ (page_of start.orders).memory;
+      row_place : (page_of l.rows).memory ≡ (page_of start.rows).memory;
       run : Run (Answered (parts_in start.self.book)) (take l.call-index l.calls) (map answer_of (vec_items l.answers)) (moment D start.self (page_of start.orders) (page_of start.rows) start.walk) (moment D l.self (page_of l.orders) (page_of l.rows) l.walk);
     }
