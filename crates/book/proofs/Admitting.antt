@@ -14,7 +14,7 @@ use Rattle.reckoning.specs.Parts.{Parts}
 use Rattle.reckoning.specs.Plans.{Plan, planned, move}
 use Rattle.reckoning.specs.Questions.{Room, verdict, admit_questions}
 use Rattle.sheet.specs.Sheets.{Page, rewritten}
-use Rattle.reckoning.specs.Sheets.{code, codes, retuning}
+use Rattle.reckoning.specs.Sheets.{code, codes}
 use Rattle.reckoning.specs.Soundness.{sound_test}
 use Rattle.reckoning.specs.Standing.{leaves}
 use Rattle.reckoning.proofs.Admissions.{all_asked, sound_admission}
@@ -89,7 +89,7 @@ module _ (room : Room) (walk : List ℕ) (n s d limit : ℕ) (b b' : Book) (o o'
       let y = sym (accepted L room ss walk n s d limit e) in
       let new : Session = new_session n s d Q.gives in
       record {
-        answer = ap₂ (λ (v : Lightpath) (es : List Retuning). admitted v.wavelength (length es)) h.path h.chain_changes ∙ (ap (admitted Q.gives) (length-map Q.moving (retuning L.group Q.p Q.q)) ∙ ap (λ (z : Reply). z.answer) y);
+        answer = ap₂ (λ (v : Lightpath) (k : ℕ). admitted v.wavelength k) h.path h.moves ∙ ap (λ (z : Reply). z.answer) y;
         setting = h.setting;
         standing = h.standing ∙ ap (λ (z : Reply). z.after) y;
         puts =

@@ -1,8 +1,8 @@
 -- Rows searched, counted and changed from either end.
-use Rattle.std.proofs.Common.{◌≡◌, ℕ, ◌+◌, ◌<◌, Bool, true, false, cond, ◌||◌, List, [], ◌∷◌, ◌++◌, length, get_or, take, drop, map, filter, reverse, count_by, Some, sym, refl, ap, ◌∙◌, arith}
+use Rattle.std.proofs.Common.{◌≡◌, ℕ, ◌+◌, ◌<◌, Bool, true, false, cond, ◌||◌, List, [], ◌∷◌, ◌++◌, length, get_or, take, drop, map, set, filter, reverse, count_by, Some, sym, refl, ap, ◌∙◌, arith}
 use mathlib.Core.List.{reverse_aux}
 use Rattle.std.specs.List.{find, list_any, refill}
-use Rattle.std.proofs.lemmas.List.{length-map, reverse-append, take-append-le, take_all, take_more}
+use Rattle.std.proofs.lemmas.List.{length-map, map-append, reverse-append, take-append-le, take_all, take_more, take_more_set}
 use Rattle.std.proofs.lemmas.List.Sorted.{IsPermutation-reverse, sum_by-IsPermutation}
 use Rattle.reckoning.specs.Lists.{first, any}
 
@@ -51,3 +51,10 @@ pub all_moved : {A : Type 0} (f : A → A) (rows out : List A) → out ≡ map f
 all_moved f rows out e =
     let l : length out ≡ length rows = ap length e ∙ length-map rows f in
     take-append-le (length rows) out (drop (length out) rows) (omega (arith, l)) ∙ (take_all (length rows) out (omega (arith, l)) ∙ e)
+
+-- i elements are written from those of another list
+pub written_more : {A B : Type 0} (f : A → B) (xs : List A) (ys : List B) (i : ℕ) (d : A) (y : B) → i < length xs → i < length ys → take i ys ≡ map f (take i xs) → y ≡ f (get_or xs i d) → take (i + 1) (set ys i y) ≡ map f (take (i + 1) xs)
+written_more {A} {B} f xs ys i d y h l e v =
+    take_more_set ys i y l
+    ∙ (ap (λ (t : List B). t ++ (y ∷ [])) e
+    ∙ (ap (λ (z : B). map f (take i xs) ++ (z ∷ [])) v ∙ (sym (map-append f (take i xs) (get_or xs i d ∷ [])) ∙ ap (map f) (sym (take_more xs i d h)))))

@@ -1,5 +1,5 @@
 -- What the calls of a book answer, and what a plant is to be told, in the words of the reckoning.
-use Rattle.std.specs.Prelude.{◌≡◌, ℕ, List, [], ◌∷◌, ◌++◌, map, reverse, length, Some, Ok, Err, Result}
+use Rattle.std.specs.Prelude.{◌≡◌, ℕ, List, [], ◌∷◌, ◌++◌, map, reverse, length, take, Some, Ok, Err, Result}
 use Rattle.std.specs.List.{range_with_len}
 use Rattle.plant.specs.declared.lightpath.Lightpath.{Lightpath}
 use Rattle.plant.specs.Orders.{change_over, darken, light, Order as Put}
@@ -29,7 +29,7 @@ answered accepted (Ok x) = accepted x
 answered accepted (Err e) = refused (refusal_number e)
 
 abbrev pub admit_answer : Result Change CallRefusal → Answer
-admit_answer r = answered (λ x. admitted x.path.wavelength (length x.chain.items)) r
+admit_answer r = answered (λ x. admitted x.path.wavelength x.moves) r
 
 abbrev pub quote_answer : Result (ℕ × ℕ) CallRefusal → Answer
 quote_answer r = answered (λ x. quoted x.0 x.1) r
@@ -54,7 +54,7 @@ told puts (Err e) = []
 
 -- the chain changes over, and the new lightpath is lit
 abbrev pub changes : Change → List Put
-changes x = change_over x.chain.items ++ (light x.path.wavelength x.path.source x.path.destination ∷ [])
+changes x = change_over (take x.moves x.chain) ++ (light x.path.wavelength x.path.source x.path.destination ∷ [])
 
 abbrev pub darkens : Lightpath → List Put
 darkens x = darken x.wavelength x.source x.destination ∷ []
@@ -74,7 +74,8 @@ pub record Carried (chain : List Session) (p q : ℕ) (new : Session) (b b' : Bo
   pub standing : standing_in b' ≡ new ∷ map (shift chain p q) (standing_in b)
   pub orders : o' ≡ rewritten (Some (chain_orders (parts_in b).group p q (reverse chain) ++ (order (parts_in b).group Light new ∷ []))) o
   pub room : length o'.places ≡ length o.places
-  pub chain_changes : x.chain.items ≡ map (retuning (parts_in b).group p q) chain
+  pub moves : x.moves ≡ length chain
+  pub chain_changes : take x.moves x.chain ≡ map (retuning (parts_in b).group p q) chain
   pub path : x.path ≡ lightpath (parts_in b).group new
 
 -- what is known once the questions are answered and the chains are walked; `new` is the walk list then

@@ -58,6 +58,7 @@ impl Book {
     {
         self.setting.write_orders(chain, exchange, new, orders);
         let change = Change {
+            moves: chain.len() as u8,
             chain: self.setting.retunings(chain, exchange),
             path: self.setting.lightpath(new),
         };

@@ -1,5 +1,5 @@
 //! The orders of an admission, and the change-over that a plant makes of them.
-ghost use Rattle.std.specs.Prelude.{◌≡◌, ◌+◌, ◌*◌, ◌≤◌, [], ◌∷◌, ◌++◌, map, reverse, length, Some};
+ghost use Rattle.std.specs.Prelude.{◌≡◌, ◌+◌, ◌*◌, ◌≤◌, [], ◌∷◌, ◌++◌, map, reverse, length, take, Some};
 ghost use Rattle.reckoning.specs.declared.order.Kind.TheVariants.{Darken, Light};
 ghost use Rattle.reckoning.specs.Sheets.{order, chain_orders, lightpath, retuning};
 ghost use Rattle.sheet.specs.Pages.{page_of};
@@ -8,7 +8,6 @@ ghost use Rattle.book.specs.Standing.{parts_of};
 
 use crate::moving::Exchange;
 use crate::setting::Setting;
-use arrayvec::ArrayVec;
 use plant::change_over::Retuning;
 use plant::lightpath::Lightpath;
 use reckoning::order::{Kind, Order};
@@ -52,14 +51,14 @@ impl Setting {
         }
     }
 
-    /// What a plant is to change of each session of a chain.
-    pub(crate) fn retunings(&self, chain: &[Session], exchange: Exchange) -> ArrayVec<Retuning, 32>
+    /// What a plant is to change of each session of a chain, in the first places.
+    pub(crate) fn retunings(&self, chain: &[Session], exchange: Exchange) -> [Retuning; 32]
         requires { length chain.now ≤ 32 }
-        ensures { result.items ≡ map (retuning (parts_of self.now).group exchange.p exchange.q) chain.now }
+        ensures { take (length chain.now) result ≡ map (retuning (parts_of self.now).group exchange.p exchange.q) chain.now }
     {
-        let mut changes = ArrayVec::new();
-        for s in chain {
-            changes.push(self.retuning(exchange, *s));
+        let mut changes = [Retuning::default(); 32];
+        for i in 0..chain.len() {
+            changes[i] = self.retuning(exchange, chain[i]);
         }
         changes
     }

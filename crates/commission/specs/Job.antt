@@ -1,8 +1,9 @@
 -- What the job of commissioning a plant answers, and the plant after it.
-use Rattle.std.specs.Prelude.{◌≡◌, ℕ, ◌+◌, ◌*◌, ◌<◌, List, [], ◌∷◌, map, drop, Result, slice_index}
+use Rattle.std.specs.Prelude.{◌≡◌, ℕ, ◌+◌, ◌*◌, ◌<◌, List, [], ◌∷◌, map, drop, Ok, Err, Result, slice_index}
 use Rattle.plant.specs.declared.lightpath.Lightpath.{Lightpath}
 use Rattle.plant.specs.declared.refusal.PlantRefusal.{PlantRefusal}
 use Rattle.plant.specs.Cells.{coded}
+use Rattle.plant.specs.Refusals.{plant_number}
 use Rattle.plant.specs.Orders.{Order, light, darken, answer_to, after, after_all, change_over, until_refused}
 use Rattle.plant.specs.Switch.{Switch}
 use Rattle.commission.specs.declared.job.Job.{Job}
@@ -14,6 +15,11 @@ lighting p = light p.wavelength p.source p.destination
 abbrev pub answers_to : Switch → List Lightpath → List (Result (Unit {0}) PlantRefusal)
 answers_to t [] = []
 answers_to t (p ∷ ps) = answer_to t (lighting p) ∷ answers_to (after t (lighting p)) ps
+
+-- an answer as it is shown: a refusal by its number
+abbrev pub numbered : Result (Unit {0}) PlantRefusal → Result (Unit {0}) ℕ
+numbered (Ok u) = Ok u
+numbered (Err e) = Err (plant_number e)
 
 -- the job's steps: the plan is lit, as far as the plant accepts it; a chain changes over; another one; and one lightpath is darkened
 abbrev pub plan_lit : Switch → Job → Switch

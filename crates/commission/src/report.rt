@@ -1,6 +1,6 @@
 //! What the program does and prints.
 ghost use Rattle.std.specs.Prelude.{◌≡◌, true, is_ok};
-ghost use Rattle.commission.specs.Job.{Holds, after_job};
+ghost use Rattle.commission.specs.Job.{Holds, after_job, numbered};
 ghost use Rattle.plant.specs.Registers.{served};
 ghost use Rattle.plant.specs.Switch.{dark_switch};
 
@@ -175,12 +175,19 @@ fn show_checks(rt: &HostRuntime) -> anyhow::Result<()> {
     Ok(())
 }
 
+// An answer as it is shown.
+fn numbered(answer: Result<(), PlantRefusal>) -> Result<(), u8>
+    ensures { result ≡ numbered answer }
+{
+    answer.map_err(PlantRefusal::number)
+}
+
 fn show_order(
     rt: &HostRuntime,
     what: &str,
     answer: Result<(), PlantRefusal>,
 ) -> anyhow::Result<()> {
-    show_answer(rt, what, answer.map_err(PlantRefusal::number))
+    show_answer(rt, what, numbered(answer))
 }
 
 fn show_work(rt: &HostRuntime, plan: &[Lightpath], answers: &Answers) -> anyhow::Result<()> {

@@ -30,7 +30,7 @@ impl<L: Layout + Drop, P: Plant + Drop> Controller<L, P> {
     {
         let admitted = self.book.admit(demand, limit, orders, walk)?;
         let _ = change(&mut self.plant, &admitted);
-        Ok((admitted.path.wavelength, admitted.chain.len() as u8))
+        Ok((admitted.path.wavelength, admitted.moves))
     }
 
     pub(crate) fn quote_booked(

@@ -15,7 +15,7 @@ pub(crate) fn change<P: Plant>(plant: &mut P, change: &Change) -> Result<(), Pla
     ensures after { P.state plant.new ≡ until_refused (P.state plant.old) (changes change.now) }
     ensures kept { P.kept plant.new ≡ P.kept plant.old }
 {
-    change_over(plant, &change.chain)?;
+    change_over(plant, &change.chain[..change.moves as usize])?;
     plant.light(change.path)
 }
 

@@ -22,18 +22,21 @@ fn started<L: Layout + Drop, P: Plant + Drop>(layout: L, plant: P) -> Controller
     Controller::new(layout, plant)
 }
 
-/// On a hub of so many wavelengths, which fits the layout.
-pub(crate) fn on_hub<L: Layout + Drop>(layout: L, waves: u8) -> Controller<L, MirrorHub> {
-    let groups = layout.groups();
+/// On a hub of so many wavelengths and groups.
+pub(crate) fn on_hub<L: Layout + Drop>(
+    layout: L,
+    waves: u8,
+    groups: u8,
+) -> Controller<L, MirrorHub> {
     started(layout, MirrorHub::new(waves, groups))
 }
 
-/// On a fabric of so many wavelengths, which fits the layout.
+/// On a fabric of so many wavelengths and groups.
 pub(crate) fn on_fabric<L: Layout + Drop>(
     layout: L,
     waves: u8,
+    groups: u8,
     registers: &mut [u8],
 ) -> Controller<L, RegisterFabric<'_>> {
-    let groups = layout.groups();
     started(layout, RegisterFabric::new(registers, waves, groups))
 }

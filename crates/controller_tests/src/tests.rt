@@ -150,15 +150,15 @@ fn on_both<L: Layout + Drop>(
     alloc: Global,
     layouts: [L; 2],
     waves: u8,
+    groups: u8,
     case: &Case,
 ) -> Result<(), Fail> {
     let [first, second] = layouts;
-    let groups = first.groups();
     let mut registers = [7u8; 1024];
     let copy = RegisterFabric::new(&mut registers, waves, groups);
-    serves(rt, alloc, on_hub(first, waves), copy, case)?;
+    serves(rt, alloc, on_hub(first, waves, groups), copy, case)?;
     let mut registers = [7u8; 1024];
-    let controller = on_fabric(second, waves, &mut registers);
+    let controller = on_fabric(second, waves, groups, &mut registers);
     serves(rt, alloc, controller, MirrorHub::new(waves, groups), case)
 }
 
@@ -167,9 +167,11 @@ fn on_star(
     alloc: Global,
     ports: &[u8],
     waves: u8,
+    groups: u8,
     case: &Case,
 ) -> Result<(), Fail> {
-    on_both(rt, alloc, [Star::new(ports), Star::new(ports)], waves, case)
+    let layouts = [Star::new(ports), Star::new(ports)];
+    on_both(rt, alloc, layouts, waves, groups, case)
 }
 
 fn on_splitter(
@@ -185,7 +187,7 @@ fn on_splitter(
         Splitter::new(ports, entries, branches),
         Splitter::new(ports, entries, branches),
     ];
-    on_both(rt, alloc, layouts, waves, case)
+    on_both(rt, alloc, layouts, waves, branches, case)
 }
 
 #[test]
@@ -225,7 +227,7 @@ fn a_chain_moves(rt: HostRuntime) -> Result<(), Fail> {
         ],
         walk: &[35, 0, 1],
     };
-    on_star(&rt, rt.alloc(), &[2, 2, 2, 2], 2, &case)
+    on_star(&rt, rt.alloc(), &[2, 2, 2, 2], 2, 4, &case)
 }
 
 #[test]
@@ -252,7 +254,7 @@ fn the_source_chain_moves_on_a_tie(rt: HostRuntime) -> Result<(), Fail> {
         ],
         walk: &[32, 2],
     };
-    on_star(&rt, rt.alloc(), &[2, 2, 2, 2], 2, &case)
+    on_star(&rt, rt.alloc(), &[2, 2, 2, 2], 2, 4, &case)
 }
 
 #[test]
@@ -287,7 +289,7 @@ fn three_move_at_once(rt: HostRuntime) -> Result<(), Fail> {
         ],
         walk: &[32, 2, 34, 1, 33, 3],
     };
-    on_star(&rt, rt.alloc(), &[2, 2, 2, 2], 2, &case)
+    on_star(&rt, rt.alloc(), &[2, 2, 2, 2], 2, 4, &case)
 }
 
 #[test]
@@ -312,7 +314,7 @@ fn no_third_wavelength_is_needed(rt: HostRuntime) -> Result<(), Fail> {
         orders: &[order(Kind::Light, 1, 2, 1, 6)],
         walk: &[1, 34, 32, 0],
     };
-    on_star(&rt, rt.alloc(), &[2, 2, 2], 2, &case)
+    on_star(&rt, rt.alloc(), &[2, 2, 2], 2, 3, &case)
 }
 
 #[test]
@@ -351,7 +353,7 @@ fn ten_sessions_of_five_sites(rt: HostRuntime) -> Result<(), Fail> {
         orders: &[],
         walk: &[33, 0, 32, 3, 35, 4, 2],
     };
-    on_star(&rt, rt.alloc(), &[2; 5], 2, &case)
+    on_star(&rt, rt.alloc(), &[2; 5], 2, 5, &case)
 }
 
 #[test]
@@ -390,7 +392,7 @@ fn one_wavelength(rt: HostRuntime) -> Result<(), Fail> {
         orders: &[order(Kind::Light, 0, 1, 2, 2)],
         walk: &[],
     };
-    on_star(&rt, rt.alloc(), &[2, 2, 2], 1, &case)
+    on_star(&rt, rt.alloc(), &[2, 2, 2], 1, 3, &case)
 }
 
 #[test]
@@ -427,12 +429,12 @@ fn questions_come_in_their_order(rt: HostRuntime) -> Result<(), Fail> {
         orders: &[],
         walk: &[],
     };
-    on_star(&rt, rt.alloc(), &[1, 1, 1], 2, &case)
+    on_star(&rt, rt.alloc(), &[1, 1, 1], 2, 3, &case)
 }
 
 #[test]
 fn room_is_asked_in_places(rt: HostRuntime) {
-    let mut controller = on_hub(Star::new(&[1, 1, 1]), 2);
+    let mut controller = on_hub(Star::new(&[1, 1, 1]), 2, 3);
     let mut few = [Order::default(); 4];
     let mut five = [Order::default(); 5];
     let mut three = [0u16; 3];
@@ -487,7 +489,7 @@ fn parts_that_do_not_fit_refuse_first(rt: HostRuntime) {
 
 #[test]
 fn rows_come_by_wavelength_then_group(rt: HostRuntime) {
-    let mut controller = on_hub(Star::new(&[2, 2, 2]), 2);
+    let mut controller = on_hub(Star::new(&[2, 2, 2]), 2, 3);
     let mut places = [Order::default(); 5];
     let mut orders = Sheet::new(&mut places);
     let mut walk = [0u16; 4];

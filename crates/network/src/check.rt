@@ -15,7 +15,7 @@ pub const SPLITTER_SITES: usize = 128;
 pub const PORTS: u8 = 32;
 
 /// The most branches of a splitter.
-pub const BRANCHES: u8 = 32;
+pub const BRANCHES: usize = 32;
 
 pub fn check_star(ports: &[u8]) -> Result<(), LayoutRefusal>
     ensures { result ≡ star_verdict ports.now }
@@ -31,7 +31,7 @@ pub fn check_splitter(ports: &[u8], entries: &[u8], branches: u8) -> Result<(), 
     if entries.len() != ports.len() {
         return Err(LayoutRefusal::BranchEntries);
     }
-    if !(1..=BRANCHES).contains(&branches) {
+    if !(1..=BRANCHES).contains(&usize::from(branches)) {
         return Err(LayoutRefusal::BranchCount);
     }
     if !all_below(branches, entries) {

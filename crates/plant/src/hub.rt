@@ -70,7 +70,8 @@ impl Make for MirrorHub {
         if w >= self.waves || b >= self.groups {
             return None;
         }
-        (0..self.groups).find(|a| self.mirrors[w as usize][*a as usize] == Some(b))
+        let row = &self.mirrors[w as usize];
+        (0..self.groups).find(|a| row[*a as usize].is_some_and(|target| target == b))
     }
 
     // Where the mirror of a points.

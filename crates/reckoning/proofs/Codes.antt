@@ -1,15 +1,17 @@
 -- A code names one standing session, since at most 32 wavelengths and groups make codes that differ; and so a chain by its codes is the chain.
-use Rattle.std.proofs.Common.{◌≡◌, ℕ, ◌*◌, ◌/◌, ◌%◌, ◌<◌, ◌≤◌, Bool, true, false, not, ◌&&◌, List, map, length, Some, sym, ap, ◌∙◌, arith, nat_lt, nat_le}
+use Rattle.std.proofs.Common.{◌≡◌, ℕ, ◌*◌, ◌/◌, ◌%◌, ◌<◌, ◌≤◌, Bool, true, false, cond, not, ◌&&◌, ◌==◌, List, [], ◌∷◌, map, length, Some, sym, refl, ap, ◌∙◌, ap₂, inl, inr, arith, nat_lt, nat_le}
+use Rattle.std.proofs.lemmas.Bool.{eqb-true, eq-eqb}
 use Rattle.std.proofs.lemmas.List.{length-map}
 use Rattle.reckoning.specs.declared.session.Session.{Session}
-use Rattle.reckoning.specs.Lists.{In, Distinct, first, chain, lowest}
+use Rattle.reckoning.specs.Lists.{In, Distinct, first, any, chain, lowest}
 use Rattle.reckoning.specs.Parts.{Parts}
 use Rattle.reckoning.specs.Standing.{leaves, enters, lit_out, lit_into}
-use Rattle.reckoning.specs.Plans.{Plan, next, direct, shorter, exchange, planned}
-use Rattle.reckoning.specs.Sheets.{code}
+use Rattle.reckoning.specs.Plans.{Plan, next, direct, shorter, exchange, planned, among, moved, move}
+use Rattle.reckoning.specs.Sheets.{code, codes}
 use Rattle.reckoning.specs.Laws.{Clear, Sound}
 use Rattle.reckoning.proofs.Pigeon.{pigeon_below, pairwise_map, in_map}
 use Rattle.reckoning.proofs.Chains.{along}
+use Rattle.reckoning.proofs.Exchange.{same_number, bool_same}
 use Rattle.reckoning.proofs.Sessions.{first_found, first_hit, leaves_says, leaves_from, same_source, next_says}
 
 module _ (L : Parts) (ss : List Session) (k : Sound L ss) (few : L.wavelengths ≤ 32) (small : L.plant_groups ≤ 32) where
@@ -31,6 +33,32 @@ module _ (L : Parts) (ss : List Session) (k : Sound L ss) (few : L.wavelengths �
       let f = first_found (leaves L.group w a) ss h.0 h.1 in
       let s = leaves_says L.group w a h.0 f.1 in
       h.1 ∙ ap Some (same_source L.group ss k.clear h.0 e f.0 i (s.0 ∙ code_wavelength e i) (s.1 ∙ code_group e i))
+
+  code_same : (e s : Session) → In e ss → In s ss → (code L.group e == code L.group s) ≡ (e.number == s.number)
+  code_same e s i j =
+      bool_same _ _
+      (λ h.
+      let c = eqb-true _ _ h in
+      let l = low e i in
+      let m = low s j in
+      let w : e.wavelength ≡ s.wavelength = omega (arith, l, m, c) in
+      let a : L.group e.source ≡ L.group s.source = omega (arith, l, m, c) in
+      eq-eqb _ _ (ap (λ (x : Session). x.number) (same_source L.group ss k.clear e s i j w a)))
+      (λ h. eq-eqb _ _ (ap (λ (x : Session). code L.group x) (same_number ss k.unlike e s i j (eqb-true _ _ h))))
+
+  pub among_codes : (es : List Session) → ((x : Session) → In x es → In x ss) → (s : Session) → In s ss → any (λ x. x == code L.group s) (codes L.group es) ≡ among es s
+  among_codes [] h s j = refl
+  among_codes (e ∷ es) h s j = ap₂ (λ (b c : Bool). cond b true c) (code_same e s (h e (inl refl)) j) (among_codes es (λ x i. h x (inr i)) s j)
+
+  map_like : (f h : Session → Session) (xs : List Session) → ((x : Session) → In x xs → f x ≡ h x) → map f xs ≡ map h xs
+  map_like f h [] e = refl
+  map_like f h (x ∷ xs) e = ap₂ (λ (y : Session) (ys : List Session). y ∷ ys) (e x (inl refl)) (map_like f h xs (λ y i. e y (inr i)))
+
+  -- what moves by its code is what the plan moves
+  pub move_codes : (P : Plan) → ((x : Session) → In x P.moving → In x ss) → map (λ s. cond (any (λ x. x == code L.group s) (codes L.group P.moving)) (moved P.p P.q s) s) ss ≡ map (move P) ss
+  move_codes P h =
+      map_like (λ s. cond (any (λ x. x == code L.group s) (codes L.group P.moving)) (moved P.p P.q s) s) (move P) ss
+      (λ s i. ap (λ (b : Bool). cond b (moved P.p P.q s) s) (among_codes P.moving h s i))
 
   -- no more sessions than codes
   pub few_sessions : length ss ≤ 1024

@@ -25,3 +25,4 @@ pub mod Serving
 pub mod Soundness
 pub mod Loads
 pub mod Codes
+pub mod Memories

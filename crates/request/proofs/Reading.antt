@@ -1,59 +1,67 @@
--- A word that reads as a number, and one that does not.
-use Rattle.std.proofs.Common.{◌≡◌, ℕ, zero, suc, ◌<◌, ◌≤◌, Bool, true, false, ◌&&◌, List, [], ◌∷◌, length, Ok, Err, Result, MatchResult, sym, refl, ap, ◌∙◌, arith}
+-- The rest of a word, read behind digits whose number is held, or a larger one where it is past the limit.
+use Rattle.std.proofs.Common.{◌≡◌, ℕ, ◌+◌, ◌-◌, ◌*◌, ◌<◌, ◌≤◌, min, Bool, true, false, cond, ◌&&◌, ltb, List, [], ◌∷◌, length, get_or, drop, Ok, Err, Result, sym, refl, ap, ◌∙◌, ⊎_elim, arith}
 use Rattle.std.specs.Char.{is_ascii_digit}
-use Rattle.std.specs.List.{list_all}
-use Rattle.std.specs.Str.{all_ascii_digits, IsAscii, IsUtf8}
-use Rattle.std.specs.Str.Parse.{ParsesUnsigned}
-use Rattle.std.specs.Result.{OkIff}
-use Rattle.std.proofs.lemmas.Bool.{cond-true, cond-false, and_parts, leb-true, le-ltb, cases_lt}
-use Rattle.std.proofs.lemmas.Str.{IsUtf8-from_ascii}
-use Rattle.std.proofs.lemmas.Str.Parse.{parse_digits}
+use Rattle.std.specs.Result.{OkIff, result_or}
+use Rattle.std.specs.Str.{all_ascii_digits}
+use Rattle.std.proofs.lemmas.List.{at_drop_more, at_drop_all}
+use Rattle.std.proofs.lemmas.Bool.{cond-true, cond-false, and_left, cases_lt, lt-ltb, le-ltb}
 use Rattle.request.specs.declared.fault.NumberFault.{NumberFault}
 use Rattle.request.specs.declared.fault.NumberFault.TheVariants.{NotDigits, TooLarge}
-use Rattle.request.specs.Numbers.{value, read_number}
-use Rattle.request.proofs.Values.{own, writes_read}
-use Rattle.std.proofs.Common.{⊎_elim, ◌^◌}
+use Rattle.request.specs.Numbers.{value_after, sized, read_number}
 
-pub all_digits : (bs : List ℕ) → list_all is_ascii_digit bs ≡ all_ascii_digits bs
-all_digits [] = refl
-all_digits (b ∷ bs) = ap (λ (t : Bool). is_ascii_digit b && t) (all_digits bs)
+abbrev pub finish : ℕ → ℕ → List ℕ → Result ℕ NumberFault
+finish w v bs = cond (all_ascii_digits bs) (sized w (value_after v bs)) (Err (NotDigits w))
 
-digits_ascii : (ds : List ℕ) → all_ascii_digits ds ≡ true → IsAscii ds
-digits_ascii [] h i = omega arith
-digits_ascii (d ∷ ds) h zero =
-    let p = and_parts (is_ascii_digit d) (all_ascii_digits ds) h in
-    omega (arith, leb-true d 57 (and_parts _ _ p.0).1)
-digits_ascii (d ∷ ds) h (suc i) = digits_ascii ds (and_parts (is_ascii_digit d) (all_ascii_digits ds) h).1 i
+value_ge : (n : ℕ) (bs : List ℕ) → n ≤ value_after n bs
+value_ge n [] = omega arith
+value_ge n (b ∷ bs) = omega (arith, value_ge (n * 10 + (b - 48)) bs)
+
+-- past the limit the value does not matter
+sized_past : (w v : ℕ) (bs : List ℕ) → 4294967296 ≤ v → sized w (value_after v bs) ≡ Err (TooLarge w)
+sized_past w v bs h = cond-false (ltb (value_after v bs) 4294967296) _ _ (le-ltb _ _ (omega (arith, value_ge v bs)))
+
+-- what is held of v times ten and d, where it fits 64 bits
+abbrev held : ℕ → ℕ → ℕ
+held v d = min (min (v * 10) 18446744073709551615 + d) 18446744073709551615
+
+held_serves : (w v d : ℕ) (bs : List ℕ) → sized w (value_after (v * 10 + d) bs) ≡ sized w (value_after (held v d) bs)
+held_serves w v d bs =
+    ⊎_elim
+    (λ (h : v * 10 + d < 4294967296). let e : v * 10 + d ≡ held v d = omega arith in ap (λ (x : ℕ). sized w (value_after x bs)) e)
+    (λ (h : 4294967296 ≤ v * 10 + d). sized_past w (v * 10 + d) bs h ∙ sym (sized_past w (held v d) bs (omega arith)))
+    (cases_lt (v * 10 + d) 4294967296)
+
+finish_digit : (w v b : ℕ) (bs : List ℕ) → is_ascii_digit b ≡ true → finish w v (b ∷ bs) ≡ finish w (held v (b - 48)) bs
+finish_digit w v b bs d =
+    ap (λ (t : Bool). cond (t && all_ascii_digits bs) (sized w (value_after v (b ∷ bs))) (Err (NotDigits w))) d
+    ∙ ap (λ (x : Result ℕ NumberFault). cond (all_ascii_digits bs) x (Err (NotDigits w))) (held_serves w v (b - 48) bs)
+
+finish_stray : (w v b : ℕ) (bs : List ℕ) → is_ascii_digit b ≡ false → finish w v (b ∷ bs) ≡ Err (NotDigits w)
+finish_stray w v b bs h = cond-false (all_ascii_digits (b ∷ bs)) _ _ (and_left (is_ascii_digit b) (all_ascii_digits bs) h)
+
+finish_is : (w : ℕ) (bs : List ℕ) → 0 < length bs → read_number w bs ≡ finish w 0 bs
+unfolding read_number
+finish_is w [] h = absurd (omega arith)
+finish_is w (b ∷ bs) h = refl
 
 pub read_empty : (w : ℕ) (bs : List ℕ) → length bs ≡ 0 → read_number w bs ≡ Err (NotDigits w)
 unfolding read_number
 read_empty w [] h = refl
 read_empty w (b ∷ bs) h = absurd (omega arith)
 
-pub not_digits : (w : ℕ) (bs : List ℕ) → all_ascii_digits bs ≡ false → read_number w bs ≡ Err (NotDigits w)
-unfolding read_number
-not_digits w [] h = refl
-not_digits w (b ∷ bs) h = cond-false (all_ascii_digits (b ∷ bs)) _ _ h
+-- the turns of the loop: ws is the word, i the index and v the number held so far
+pub turn : (w : ℕ) (ws : List ℕ) (i v v' : ℕ) → i < length ws → is_ascii_digit (get_or ws i 0) ≡ true → v' ≡ min (min (v * 10) 18446744073709551615 + (get_or ws i 0 - 48)) 18446744073709551615
+    → finish w v (drop i ws) ≡ finish w 0 ws → finish w v' (drop (i + 1) ws) ≡ finish w 0 ws
+turn w ws i v v' l d e inv =
+    ap (λ (x : ℕ). finish w x (drop (i + 1) ws)) e ∙ sym (finish_digit w v (get_or ws i 0) (drop (i + 1) ws) d) ∙ sym (at_drop_more (finish w v) ws i 0 l) ∙ inv
 
-pub not_text : (w : ℕ) (bs : List ℕ) → (IsUtf8 bs → ⊥) → read_number w bs ≡ Err (NotDigits w)
-not_text w bs h = go (all_ascii_digits bs) refl
-  where
-    go : (t : Bool) → all_ascii_digits bs ≡ t → read_number w bs ≡ Err (NotDigits w)
-    go true e = absurd (h (IsUtf8-from_ascii bs (digits_ascii bs e)))
-    go false e = not_digits w bs e
+pub stray : (w : ℕ) (ws : List ℕ) (i v : ℕ) → i < length ws → is_ascii_digit (get_or ws i 0) ≡ false → finish w v (drop i ws) ≡ finish w 0 ws → read_number w ws ≡ Err (NotDigits w)
+stray w ws i v l out inv = finish_is w ws (omega arith) ∙ sym inv ∙ at_drop_more (finish w v) ws i 0 l ∙ finish_stray w v (get_or ws i 0) (drop (i + 1) ws) out
 
-too_large : (w : ℕ) (bs : List ℕ) → 0 < length bs → all_ascii_digits bs ≡ true → 2 ^ 32 ≤ value bs → read_number w bs ≡ Err (TooLarge w)
-unfolding read_number
-too_large w [] p d h = absurd (omega arith)
-too_large w (b ∷ bs) p d h = cond-true (all_ascii_digits (b ∷ bs)) _ _ d ∙ cond-false _ _ _ (le-ltb (value (b ∷ bs)) 4294967296 (omega arith))
+pub done : (w : ℕ) (ws : List ℕ) (i v : ℕ) → 0 < length ws → length ws ≤ i → finish w v (drop i ws) ≡ finish w 0 ws → read_number w ws ≡ sized w v
+done w ws i v p l inv = finish_is w ws p ∙ sym inv ∙ at_drop_all (finish w v) ws i l
 
--- r is what the library's parse gave, and s the answer made of it
-pub parsed : {E : Type 0} (w : ℕ) (bs : List ℕ) (r : Result ℕ E) (s : Result ℕ NumberFault) → 0 < length bs → all_ascii_digits bs ≡ true → ParsesUnsigned 32 10 bs r
-    → MatchResult r (λ x. s ≡ Ok x) (λ e. s ≡ Err (TooLarge w)) → s ≡ read_number w bs
-parsed {E} w bs r s p d h = go r (parse_digits own 32 bs r h d)
-  where
-    go : (r : Result ℕ E) → OkIff r ((0 < length bs) × (value bs < 2 ^ 32)) (value bs) → MatchResult r (λ x. s ≡ Ok x) (λ e. s ≡ Err (TooLarge w)) → s ≡ read_number w bs
-    go (Ok x) k m = m ∙ sym (writes_read w bs x (p, d, sym k.1, omega arith))
-    go (Err e) k m =
-        let large : 2 ^ 32 ≤ value bs = ⊎_elim (λ (l : value bs < 2 ^ 32). absurd (k (p, l))) (λ (l : 2 ^ 32 ≤ value bs). l) (cases_lt (value bs) (2 ^ 32)) in
-        m ∙ sym (too_large w bs p d large)
+-- r is the number in 32 bits, where it fits these
+pub narrowed : {E : Type 0} (w v : ℕ) (r : Result ℕ E) → OkIff r (v < 4294967296) v → sized w v ≡ result_or r (Err (TooLarge w))
+narrowed w v (Ok x) k = cond-true (ltb v 4294967296) _ _ (lt-ltb v 4294967296 k.0) ∙ ap Ok (sym k.1)
+narrowed w v (Err e) k = cond-false (ltb v 4294967296) _ _ (le-ltb v 4294967296 (⊎_elim (λ (l : v < 4294967296). absurd (k l)) (λ (l : 4294967296 ≤ v). l) (cases_lt v 4294967296)))

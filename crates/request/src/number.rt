@@ -1,26 +1,25 @@
 //! The number that a word writes.
 ghost use Rattle.request.specs.Numbers.{read_number};
 ghost use Rattle.std.specs.Prelude.{◌≡◌};
-ghost use Rattle.std.specs.Char.{is_ascii_digit};
-ghost use Rattle.std.specs.List.{list_all};
 
 use crate::fault::NumberFault;
-
-fn is_digits(bytes: &[u8]) -> bool
-    ensures { result ≡ list_all is_ascii_digit bytes.now }
-{
-    bytes.iter().all(u8::is_ascii_digit)
-}
 
 /// The number that word `word` of a line writes. A byte that is no digit counts before the size.
 pub(crate) fn read_number(word: u32, bytes: &[u8]) -> Result<u32, NumberFault>
     ensures { result ≡ read_number word bytes.now }
 {
-    let Ok(text) = str::from_utf8(bytes) else {
-        return Err(NumberFault::NotDigits { word });
-    };
-    if text.is_empty() || !is_digits(bytes) {
+    if bytes.is_empty() {
         return Err(NumberFault::NotDigits { word });
     }
-    text.parse().or(Err(NumberFault::TooLarge { word }))
+    // past the largest number that a word may write it does not matter which is held
+    let mut value: u64 = 0;
+    for byte in bytes {
+        if !byte.is_ascii_digit() {
+            return Err(NumberFault::NotDigits { word });
+        }
+        value = value
+            .saturating_mul(10)
+            .saturating_add(u64::from(*byte - b'0'));
+    }
+    u32::try_from(value).or(Err(NumberFault::TooLarge { word }))
 }

@@ -129,7 +129,9 @@ impl Search {
     // A table that is new is kept with the list that reached it.
     fn keep(&mut self, table: Table, earlier: &[Step], last: Step) -> Result<(), AllocError> {
         if self.seen.insert(table)? {
-            let mut calls = Vec::from_slice(self.alloc, earlier)?;
+            // as large as it will be: what is kept is most of the memory of a run
+            let mut calls = Vec::with_capacity(self.alloc, earlier.len() + 1)?;
+            calls.extend_from_slice(earlier)?;
             calls.push(last)?;
             self.newest.push(calls)?;
         }

@@ -103,10 +103,14 @@ pub(crate) struct Bench<L: Layout + Drop, P: Plant + Drop, Q: Plant + Drop> {
 }
 
 impl<L: Layout + Drop, P: Plant + Drop, Q: Plant + Drop> Bench<L, P, Q> {
-    fn answer(&mut self, step: Step, orders: &mut Sheet<Order>) -> Result<Done, CallRefusal> {
+    fn answer(
+        &mut self,
+        step: Step,
+        orders: &mut Sheet<Order>,
+        walk: &mut [u16],
+    ) -> Result<Done, CallRefusal> {
         match step {
             Step::Add { number, ends } => {
-                let mut walk = [0; 8];
                 let limit = self.copy.groups().saturating_sub(1);
                 let demand = Demand {
                     number,
@@ -115,7 +119,7 @@ impl<L: Layout + Drop, P: Plant + Drop, Q: Plant + Drop> Bench<L, P, Q> {
                 };
                 let (_, moves) = self
                     .controller
-                    .admit(demand, u32::from(limit), orders, &mut walk)?;
+                    .admit(demand, u32::from(limit), orders, walk)?;
                 Ok(Done::Added { moves })
             }
             Step::Drop { number } => {
@@ -132,12 +136,12 @@ impl<L: Layout + Drop, P: Plant + Drop, Q: Plant + Drop> Bench<L, P, Q> {
         Ok(orders.len())
     }
 
-    fn serve(&mut self, step: Step) -> Served {
-        let mut places = [Order::default(); 8];
-        let mut sheet = Sheet::new(&mut places);
+    // The sheet and the walk list still hold what earlier calls wrote.
+    fn serve(&mut self, step: Step, orders: &mut Sheet<Order>, walk: &mut [u16]) -> Served {
+        orders.clear();
         Served {
-            answer: self.answer(step, &mut sheet),
-            orders: self.put_each(sheet.as_slice()),
+            answer: self.answer(step, orders, walk),
+            orders: self.put_each(orders.as_slice()),
         }
     }
 
@@ -188,7 +192,7 @@ fn serves_with<L: Layout>(
     new: Ends,
     waves: u8,
 ) -> Result<bool, AllocError> {
-    let mut sessions = Vec::with_capacity(alloc, rows.len())?;
+    let mut sessions = Vec::with_capacity(alloc, rows.len() + 1)?;
     for s in rows {
         sessions.push(Ends::from(*s))?;
     }
@@ -241,15 +245,18 @@ pub(crate) fn play<L: Layout + Drop, P: Plant + Drop, Q: Plant + Drop>(
     earlier: &[Step],
     last: Step,
 ) -> Result<Outcome, AllocError> {
+    let mut order_places = [Order::default(); 8];
+    let mut orders = Sheet::new(&mut order_places);
+    let mut walk = [0; 8];
     for step in earlier {
-        bench.serve(*step);
+        bench.serve(*step, &mut orders, &mut walk);
     }
     let mut places_before = [Session::default(); 16];
     let mut places_after = [Session::default(); 16];
     let mut before = Sheet::new(&mut places_before);
     let mut after = Sheet::new(&mut places_after);
     let listed = bench.controller.list(&mut before).is_ok();
-    let served = bench.serve(last);
+    let served = bench.serve(last, &mut orders, &mut walk);
     let listed_again = bench.controller.list(&mut after).is_ok();
     let (before, after) = (before.as_slice(), after.as_slice());
     let due = asked(alloc, layout, shape, before, last)?;

@@ -1,24 +1,18 @@
-use Rattle.std.proofs.Common.{◌≡◌, ℕ, ◌<◌, true, List, length, sym, ◌∙◌, subst, rules}
-use Rattle.std.specs.Str.{all_ascii_digits}
-use Rattle.std.specs.Str.Parse.{ParsesUnsigned}
-use Rattle.request.proofs.Reading.{all_digits, read_empty, not_digits, not_text, parsed}
-use Rattle.request.proofs.number.read_number.Goals.{then-is_empty-via-then-is_empty, then-is_empty-via-else-is_empty+then-not-is_digits}
+use Rattle.std.proofs.Common.{◌<◌, length, sym, ◌∙◌, arith, rules}
+use Rattle.std.proofs.lemmas.Bool.{eqb-false}
+use Rattle.request.proofs.Reading.{read_empty, turn, stray, done, narrowed}
 use Rattle.request.proofs.number.read_number.Goals as goal
 
-pub returns-in_default : goal.returns-in_default
-returns-in_default c = sym (not_text c.args.word c.args.bytes.now c.in_default.ensures.cases.0)
-
 pub returns-then-is_empty : goal.returns-then-is_empty
-returns-then-is_empty c =
-    let e = c.in-Ok.ensures.cases.0 in
-    elim c.then-is_empty.branch [
-      | then-is_empty-via-then-is_empty w ↦ sym (read_empty c.args.word c.args.bytes.now (rw (sym e) (search rules)))
-      | then-is_empty-via-else-is_empty+then-not-is_digits w ↦ sym (not_digits c.args.word c.args.bytes.now (sym (all_digits c.args.bytes.now) ∙ sym w.if-not-is_digits.ensures))
-    ]
+returns-then-is_empty c = sym (read_empty c.args.word c.args.bytes.now (search rules))
+
+pub returns-then-not-is_ascii_digit : goal.returns-then-not-is_ascii_digit
+returns-then-not-is_ascii_digit c = sym (stray c.args.word c.args.bytes.now c.loop-byte.byte-index c.loop-byte.value c.loop-byte-test.true (sym c.if-not-is_ascii_digit.ensures.value) c.loop-byte.invariant)
+
+pub loop-byte-preserved : goal.loop-byte-preserved
+loop-byte-preserved c = turn c.args.word c.args.bytes.now c.loop-byte.byte-index c.loop-byte.value _ c.loop-byte-test.true (sym c.if-not-is_ascii_digit.ensures.value) (search rules) c.loop-byte.invariant
 
 pub returns : goal.returns
 returns c =
-    let e = c.in-Ok.ensures.cases.0 in
-    let p : 0 < length c.in-Ok.text.now = search rules in
-    let d : all_ascii_digits c.args.bytes.now ≡ true = sym (all_digits c.args.bytes.now) ∙ sym c.if-not-is_digits.ensures in
-    parsed c.args.word c.args.bytes.now c.parse.result c.or.result (subst (λ (ts : List ℕ). 0 < length ts) e p) d (subst (λ (ts : List ℕ). ParsesUnsigned 32 10 ts c.parse.result) e c.parse.ensures.value.0) (search rules)
+    let p : 0 < length c.args.bytes.now = omega (arith, eqb-false (length c.args.bytes.now) 0 (sym c.if-is_empty.ensures)) in
+    sym (done c.args.word c.args.bytes.now c.loop-byte.byte-index c.loop-byte.value p c.loop-byte-test.false c.loop-byte.invariant ∙ (narrowed c.args.word c.loop-byte.value c.try_from.result c.try_from.ensures ∙ sym c.or.ensures))

@@ -1,5 +1,5 @@
 -- The orders are written and the change is told before the rows change.
-use Rattle.std.proofs.Common.{◌≤◌, [], ◌∷◌, ◌++◌, reverse, length, arith}
+use Rattle.std.proofs.Common.{◌≤◌, [], ◌∷◌, ◌++◌, reverse, length, refl, arith}
 use Rattle.std.proofs.lemmas.List.{length-append, length-reverse}
 use Rattle.reckoning.specs.declared.order.Kind.TheVariants.{Light}
 use Rattle.reckoning.specs.Sheets.{order, chain_orders}
@@ -23,6 +23,7 @@ returns c =
       setting = c.enter.ensures.setting;
       standing = c.enter.ensures.stands;
       orders = c.write_orders.ensures;
+      moves = refl;
       chain_changes = c.retunings.ensures;
       path = c.lightpath.ensures;
     }

@@ -1,7 +1,6 @@
 -- What is booked is put to the plant.
-use Rattle.std.proofs.Common.{ℕ, length, Result, refl, sym, subst}
+use Rattle.std.proofs.Common.{ℕ, length, Result, refl, subst}
 use Rattle.reckoning.specs.declared.call.Call.TheVariants.{Admit}
-use Rattle.reckoning.specs.Calls.{admitted}
 use Rattle.sheet.specs.Pages.{page_of}
 use Rattle.book.specs.declared.refusal.CallRefusal.{CallRefusal}
 use Rattle.book.specs.Books.{parts_in, standing_in}
@@ -41,7 +40,6 @@ returns g c =
       place = c.admit.ensures.same;
       same = record { layout = refl; setting = c.in_ok-admitted.ensures.booked.setting; kept = c.change.ensures.kept };
       serves = λ rows.
-          subst (λ (n : ℕ). Serves g.L.Layout k call (admitted c.in_ok-admitted.admitted.path.wavelength n) (moment g.P.Plant k o rows c.args.walk.now) (moment g.P.Plant k' o' rows c.admit.new.walk)) (sym c.len.ensures.value)
-          (carried_out g.L.Layout g.P.Plant k k' (g.met.L.Layout.grouped k.layout) (g.met.L.Layout.separate k.layout) call _ (changes c.in_ok-admitted.admitted) o o' rows c.args.walk.now c.admit.new.walk c.in_ok-admitted.ensures.booked c.change.ensures.after
-          (admit_rows (parts_in k.book) (record { orders = length o.places; rows = length rows.places }) (standing_in k.book) c.args.walk.now c.args.demand.number c.args.demand.source c.args.demand.destination c.args.limit) c.admit.ensures.walk);
+          carried_out g.L.Layout g.P.Plant k k' (g.met.L.Layout.grouped k.layout) (g.met.L.Layout.separate k.layout) call _ (changes c.in_ok-admitted.admitted) o o' rows c.args.walk.now c.admit.new.walk c.in_ok-admitted.ensures.booked c.change.ensures.after
+          (admit_rows (parts_in k.book) (record { orders = length o.places; rows = length rows.places }) (standing_in k.book) c.args.walk.now c.args.demand.number c.args.demand.source c.args.demand.destination c.args.limit) c.admit.ensures.walk;
     }
